@@ -1,0 +1,2 @@
+-- The definitions that the contracts of `condensers` cite.
+pub mod Meaning

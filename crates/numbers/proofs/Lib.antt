@@ -1,0 +1,2 @@
+-- Lemmas of `numbers` that several proofs share.
+pub mod Scale

@@ -1,0 +1,5 @@
+-- The definitions that the contracts of `numbers` cite: values in units, refusals, products, acceptance, and what each kind of number makes of an element.
+pub mod Units
+pub mod Refusals
+pub mod Products
+pub mod Acceptance
