@@ -1,2 +1,5 @@
 -- Lemmas of `numbers` that several proofs share.
 pub mod Scale
+pub mod Window
+pub mod Encoding
+pub mod Halving

@@ -32,7 +32,7 @@ signed-mul true true zero (suc b) = simp zero-mul
 signed-mul true true (suc a) zero = simp mul-zero
 signed-mul true true (suc a) (suc b) = refl
 
-plus-right : (s : Bool) → unlike s false ≡ s
+pub plus-right : (s : Bool) → unlike s false ≡ s
 plus-right false = refl
 plus-right true = refl
 

@@ -3,3 +3,5 @@ pub mod Units
 pub mod Refusals
 pub mod Products
 pub mod Acceptance
+pub mod Patterns
+pub mod Counts
