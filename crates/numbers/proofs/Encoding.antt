@@ -11,7 +11,7 @@ use lib.Pow.{pow-add, pow-pos, pow-mono, shl-lt}
 use Rattle.std.specs.declared.option.Option.{Option}
 use Rattle.std.specs.declared.option.Option.the-variants.{Some}
 use Rattle.std.specs.declared.result.Result.the-variants.{Ok, Err}
-use Rattle.std.proofs.shelf.Tests.{ne-eqb, eq-eqb, cond-false}
+use Rattle.std.proofs.shelf.Tests.{ne-eqb, eq-eqb, cond-false, cond-true}
 use Rattle.numbers.specs.declared.factor.Factor.{Factor}
 use Rattle.numbers.specs.declared.refusal.Reason.{Reason}
 use Rattle.numbers.specs.Acceptance.{FactorValue, Acceptable, Answers}
@@ -53,8 +53,10 @@ not-acceptable s (suc x) t ht nz why (w, win) = go why
   where
     n : ℕ
     n = (2 ^ 52 + t) * 2 ^ x
+
     is : w .significand * 2 ^ rank (w .exponent) ≡ n
     is = sym (factor-size w) ∙ size-signed s n
+
     go : (suc x < 512) ⊎ ((1506 < suc x) ⊎ (t % 2 ^ 27 ≡ 0 → ⊥)) → ⊥
     go (inl h) =
         let o = pow-order 563 (53 + x) n (in-window (signed s n) n (size-signed s n) (size-positive n nz) win) (size-below x t ht) in
@@ -75,8 +77,10 @@ accepted-value s x t e h k = ap (signed s) (ap (λ (y : ℕ). m * 2 ^ y) (k ∙ 
   where
     m : ℕ
     m = 2 ^ 25 + t / 2 ^ 27
+
     turned : x + 27 ≡ 27 + x
     turned = omega arith
+
     whole : m * 2 ^ 27 ≡ 2 ^ 52 + t
     whole = omega arith
 
@@ -94,6 +98,9 @@ some-test b h = ne-eqb (patternSize (fieldOf b) (fractionOf b)) 0 h
 
 pub not-zero : (b : ℕ) → ((fieldOf b ≡ 0) → (fractionOf b ≡ 0) → ⊥) → patternSize (fieldOf b) (fractionOf b) ≡ 0 → ⊥
 not-zero b h z = let p = size-zero (fieldOf b) (fractionOf b) z in h (p .0) (p .1)
+
+pub no-value-answer : (b : ℕ) (r : Reason) → fieldOf b ≡ 2047 → codeOf r ≡ 1 → Answers (patternValue b) (Err r)
+no-value-answer b r f code = subst (λ (o : Option ℤ). Answers o (Err r)) (sym (cond-true _ _ _ (eq-eqb (fieldOf b) 2047 f))) code
 
 pub zero-answer : (b : ℕ) (f : Factor) → (fieldOf b ≡ 2047 → ⊥) → fieldOf b ≡ 0 → fractionOf b ≡ 0 → f .significand ≡ 0 → Answers (patternValue b) (Ok f)
 zero-answer b f n h t m =
@@ -113,8 +120,10 @@ made-answer b f n low high even sign m e = subst (λ (o : Option ℤ). Answers o
   where
     t : ℕ
     t = fractionOf b
+
     s : Bool
     s = signOf b
+
     go : (field : ℕ) → 512 ≤ field → field ≤ 1506 → f .exponent ≡ pos field -ℤ pos 1048 → Acceptable (signed s (patternSize field t)) × (factorUnits f ≡ signed s (patternSize field t))
     go zero lo hi ex = absurd (omega arith)
     go (suc x) lo hi ex =

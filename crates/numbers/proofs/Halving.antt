@@ -33,6 +33,7 @@ halved m h even = ap (λ (x : ℕ). m / 2 * 2 ^ x) turned ∙ pow-shift (m / 2) 
   where
     turned : h + 1 ≡ 1 + h
     turned = omega arith
+
     whole : m / 2 * 2 ^ 1 ≡ m
     whole = omega arith
 
@@ -95,8 +96,7 @@ zero-plus (negsuc n) h = absurd (omega arith)
 pub count-accepted : (z : ℤ) (s : Bool) (m h : ℕ) (e : ℤ) → m < 2 ^ 26 → h ≤ 6 → natAbs z ≡ m * 2 ^ h → e ≡ pos h → s ≡ isNegative z
     → Acceptable (z *ℤ oneUnits) × (units s m e ≡ z *ℤ oneUnits)
 count-accepted z s m h e short few size e-is s-is =
-    let is : units s m e ≡ z *ℤ oneUnits = ap₂ (λ (p : Bool) (q : ℤ). units p m q) s-is e-is ∙ shifted-units (isNegative z) m h ∙ ap (λ (x : ℕ). units (isNegative z) x (pos 0)) (sym size) ∙ sym (count-units z) in
-    (
+    let is : units s m e ≡ z *ℤ oneUnits = ap₂ (λ (p : Bool) (q : ℤ). units p m q) s-is e-is ∙ shifted-units (isNegative z) m h ∙ ap (λ (x : ℕ). units (isNegative z) x (pos 0)) (sym size) ∙ sym (count-units z) in (
       (
         record { sign = s; significand = m; exponent = e; short = short; low = omega (arith, ints); high = omega (arith, ints); value-is = sym is },
         count-window z,

@@ -3,3 +3,4 @@ pub mod Scale
 pub mod Window
 pub mod Encoding
 pub mod Halving
+pub mod Floats

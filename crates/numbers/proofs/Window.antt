@@ -74,7 +74,7 @@ own-value f =
       short = f .short;
       low = f .low;
       high = f .high;
-      value-is = refl
+      value-is = refl;
     }
 
 -- the size of a factor's value

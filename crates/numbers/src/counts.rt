@@ -14,10 +14,13 @@ pub impl Kind for Counts as CountsKind {
     type Element = i32;
 
     const LETTER: u8 = b'c';
+
     const WIDTH: u32 = 32;
 
     ghost value = { countValue };
+
     ghost letter = { 99 };
+
     ghost width = { 32 };
 
     fn field_letter() -> u8 {
@@ -41,6 +44,10 @@ pub impl Kind for Counts as CountsKind {
             significand /= 2;
             halvings += 1;
         }
-        Ok(Factor { negative: element < 0, significand, exponent: halvings as i32 })
+        Ok(Factor {
+            negative: element < 0,
+            significand,
+            exponent: halvings as i32,
+        })
     }
 }

@@ -2,6 +2,8 @@
 ghost use mathlib.Core.Path.{_≡_};
 ghost use Rattle.numbers.specs.Acceptance.{Answers};
 ghost use Rattle.numbers.specs.Patterns.{patternValue, PatternMade};
+ghost use Rattle.numbers.specs.Units.{floatValue};
+ghost use lib.Ieee.{binary64, ofBits};
 use crate::factor::Factor;
 use crate::kind::Kind;
 use crate::refusal::Reason;
@@ -14,10 +16,13 @@ pub impl Kind for Patterns as PatternsKind {
     type Element = u64;
 
     const LETTER: u8 = b'p';
+
     const WIDTH: u32 = 64;
 
     ghost value = { patternValue };
+
     ghost letter = { 112 };
+
     ghost width = { 64 };
 
     fn field_letter() -> u8 {
@@ -31,6 +36,7 @@ pub impl Kind for Patterns as PatternsKind {
     fn factor(element: u64) -> Result<Factor, Reason>
         ensures answer { λ r. ⌜ Answers (patternValue element) r ⌝ }
         ensures made { λ r. ⌜ PatternMade element r ⌝ }
+        ensures value { λ _. ⌜ patternValue element ≡ floatValue (ofBits binary64 element) ⌝ }
     {
         let field = (element >> 52) % (1 << 11);
         let fraction = element % (1 << 52);
@@ -44,6 +50,10 @@ pub impl Kind for Patterns as PatternsKind {
             return Err(Reason::NotFactor);
         }
         let significand = (1 << 25) + (fraction >> 27) as u32;
-        Ok(Factor { negative: element >= 1 << 63, significand, exponent: field as i32 - 1048 })
+        Ok(Factor {
+            negative: element >= 1 << 63,
+            significand,
+            exponent: field as i32 - 1048,
+        })
     }
 }

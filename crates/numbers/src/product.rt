@@ -31,7 +31,11 @@ impl Piece {
 
 impl Factor {
     /// The factor zero.
-    pub const ZERO: Factor = Factor { negative: false, significand: 0, exponent: 0 };
+    pub const ZERO: Factor = Factor {
+        negative: false,
+        significand: 0,
+        exponent: 0,
+    };
 
     /// The exact product of two factors. Their limits make it fit, so nothing is tested.
     pub fn times(self, other: Factor) -> Piece

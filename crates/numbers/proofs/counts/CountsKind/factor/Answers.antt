@@ -25,7 +25,7 @@ returns-then-significand-ne0 c =
     let l = c .loop-significand in
     record {
       answer = (count-refused (c .args .element) (l .significand) (l .halvings) (stored (c .args .element) _ (c .fits .element) (l .inv .0)) (c .loop-significand-test .taken) (c .if-significand-ne0 .taken), refl);
-      made = tt
+      made = tt;
     }
 
 pub add-halvings : need.add-halvings
@@ -50,8 +50,7 @@ ghost-result c =
     let l = c .loop-significand in
     let u = c .unsigned-abs-significand in
     let f = few (c .args .element) (u .result) (l .significand) (l .halvings) (u .ensures .value) (u .ensures .bound) (l .inv) in
-    let size = stored (c .args .element) _ (c .fits .element) (l .inv .0) in
-    (
+    let size = stored (c .args .element) _ (c .fits .element) (l .inv .0) in (
       c .loop-significand-test .left,
       (
         omega (arith, ints),
@@ -75,5 +74,5 @@ returns c =
     let e : toZ w32 (l .halvings) ≡ pos (l .halvings) = toZ-pos w32 (l .halvings) (omega arith) in
     record {
       answer = count-accepted (c .args .element) _ (l .significand) (l .halvings) _ (c .loop-significand-test .left) f size e sign;
-      made = record { halvings = l .halvings; exponent-is = e; size-is = size; needed = l .inv .1; sign-is = sign }
+      made = record { halvings = l .halvings; exponent-is = e; size-is = size; needed = l .inv .1; sign-is = sign };
     }
