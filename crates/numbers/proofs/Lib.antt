@@ -4,3 +4,4 @@ pub mod Window
 pub mod Encoding
 pub mod Halving
 pub mod Floats
+pub mod Tested

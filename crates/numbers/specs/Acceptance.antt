@@ -1,10 +1,13 @@
 -- Which values an element may have to be accepted, and what a kind of number answers.
-use Prim.Native.Nat.{ℕ, _^_, _<_, _≤_}
+use Prim.Native.Nat.{ℕ, _-_, _%_, _^_, _<_, _≤_}
 use mathlib.Core.Path.{_≡_}
-use mathlib.Core.Bool.{Bool}
+use mathlib.Core.Bool.{Bool, cond, _&&_, _||_}
 use mathlib.Core.Logic.{_⊎_}
 use lib.IntN.{ℤ, pos, negsuc, natAbs}
 use lib.Signed.{_≤ℤ_}
+use lib.Dec.{eqb, leb, ltb}
+use lib.Ieee.{size}
+use Rattle.std.specs.Orderings.{Decides}
 use Rattle.std.specs.declared.option.Option.{Option}
 use Rattle.std.specs.declared.option.Option.the-variants.{Some, None}
 use Rattle.std.specs.declared.result.Result.{Result}
@@ -31,6 +34,18 @@ InWindow v = (v ≡ pos 0) ⊎ (2 ^ rank (negsuc 510) ≤ natAbs v)
 
 abbrev pub Acceptable : ℤ → Type 0
 Acceptable v = FactorValue v × InWindow v
+
+-- The same as a test: zero, or a size from 2^-511 up and below 2^484 with no set bit below its leading 26.
+unfoldable pub acceptable : ℤ → Bool
+acceptable v = eqb (natAbs v) 0 || (leb (2 ^ rank (negsuc 510)) (natAbs v) && (ltb (natAbs v) (2 ^ rank (pos 484)) && eqb (natAbs v % 2 ^ (size (natAbs v) - 26)) 0))
+
+abbrev pub AcceptanceTested : Type 0
+AcceptanceTested = (v : ℤ) → Decides (acceptable v) (Acceptable v)
+
+-- the code that an element gets by its value, 0 where it is accepted
+abbrev pub elementCode : Option ℤ → ℕ
+elementCode None = 1
+elementCode (Some v) = cond (acceptable v) 0 2
 
 -- The answer to an element by its value, none where it has no finite one. An acceptable value is accepted and the factor has it;
 -- code 1 says that there is no finite value, code 2 that the value is not acceptable.
