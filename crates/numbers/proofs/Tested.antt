@@ -13,9 +13,17 @@ use lib.Ieee.Digits.{size-lt, size-le, size-reaches}
 use lib.Pow.{pow-mono, shl-lt, shr-lt, split}
 use borrow.Author.Differences.{ints}
 use Rattle.std.specs.Orderings.{Decides}
-use Rattle.std.proofs.shelf.Tests.{and-parts, and-from, or-cases, or-left, or-right, eqb-true, eq-eqb, leb-true, le-leb, ltb-true, lt-ltb, cases-eq}
-use Rattle.numbers.specs.Acceptance.{FactorValue, InWindow, Acceptable, acceptable, AcceptanceTested}
+use Rattle.std.proofs.shelf.Tests.{and-parts, and-from, or-cases, or-left, or-right, eqb-true, eq-eqb, leb-true, le-leb, ltb-true, lt-ltb, cases-eq, cond-true, cond-false}
+use Rattle.std.specs.declared.option.Option.{Option}
+use Rattle.std.specs.declared.option.Option.the-variants.{Some, None}
+use Rattle.std.specs.declared.result.Result.{Result}
+use Rattle.std.specs.declared.result.Result.the-variants.{Ok, Err}
+use Rattle.numbers.specs.declared.factor.Factor.{Factor}
+use Rattle.numbers.specs.declared.refusal.Reason.{Reason}
+use Rattle.numbers.specs.declared.refusal.Reason.the-variants.{NotFinite, NotFactor, LengthsDiffer, Full, Shape, CountRange, OutputShort, ShortRange}
+use Rattle.numbers.specs.Acceptance.{FactorValue, InWindow, Acceptable, acceptable, AcceptanceTested, elementCode, answerCode, Answers}
 use Rattle.numbers.specs.Counts.{isNegative}
+use Rattle.numbers.specs.Refusals.{codeOf}
 use Rattle.numbers.specs.Units.{rank, signed, units}
 use Rattle.numbers.proofs.Halving.{signed-parts}
 use Rattle.numbers.proofs.Scale.{rank-is}
@@ -100,3 +108,24 @@ acceptance-tested v = (λ h. from-test (or-cases _ _ h), λ a. to-test a (cases-
 
         reach : (e : ℤ) → negsuc 535 ≤ℤ e → e ≤ℤ pos 458 → 26 + rank e ≤ 1558
         reach e lo hi = let h = rank-high e lo hi in omega arith
+
+-- a kind's answer has the code that the element's value gives
+pub answer-code : (x : Option ℤ) (r : Result Factor Reason) → Answers x r → answerCode r ≡ elementCode x
+answer-code None (Ok f) h = absurd h
+answer-code None (Err e) h = h
+answer-code (Some v) (Ok f) h = sym (cond-true _ _ _ (acceptance-tested v .1 (h .0)))
+answer-code (Some v) (Err e) h = h .1 ∙ sym (cond-false _ _ _ (refused-test (acceptable v) refl))
+  where
+    refused-test : (b : Bool) → acceptable v ≡ b → acceptable v ≡ false
+    refused-test true k = absurd (h .0 (acceptance-tested v .0 k))
+    refused-test false k = k
+
+pub code-above : (e : Reason) → 0 < codeOf e
+code-above NotFinite = omega arith
+code-above NotFactor = omega arith
+code-above LengthsDiffer = omega arith
+code-above Full = omega arith
+code-above Shape = omega arith
+code-above CountRange = omega arith
+code-above OutputShort = omega arith
+code-above ShortRange = omega arith

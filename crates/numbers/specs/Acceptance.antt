@@ -54,3 +54,8 @@ Answers None (Ok f) = ⊥
 Answers None (Err reason) = codeOf reason ≡ 1
 Answers (Some v) (Ok f) = Acceptable v × (factorUnits f ≡ v)
 Answers (Some v) (Err reason) = (Acceptable v → ⊥) × (codeOf reason ≡ 2)
+
+-- the code of an answer, 0 where it is a factor
+abbrev pub answerCode : Result Factor Reason → ℕ
+answerCode (Ok f) = 0
+answerCode (Err reason) = codeOf reason
