@@ -44,17 +44,17 @@ pub const NAMES: [&str; 6] = [
 
 /// A sheet of pseudo-random lines, or none for a name that is not in `NAMES`.
 pub fn sheet(name: &str) -> Option<Vec<u8>> {
-    let mut random = Generator::new(0x9e3779b97f4a7c15);
+    let number = NAMES.iter().position(|known| *known == name)? as u64 + 1;
+    let mut random = Generator::new(number * 0x1e3779b97f4a7c15);
     Some(match name {
-        "wide" => accepted_lines(&mut random, 300, 512..1507),
-        "near" => accepted_lines(&mut random, 300, 1010..1040),
-        "cancelling" => cancelling_lines(&mut random, 150),
-        "boundaries" => joined((0..400).map(|_| any_line(&mut random).into_bytes())),
-        "damaged" => joined((0..500).map(|_| damaged_line(&mut random))),
-        "bytes" => (0..4000)
-            .map(|_| random.choose(b"add\tsub\tpc0123456789abcdef-\n\n\r\0 \xff"))
+        "wide" => accepted_lines(&mut random, 150, 512..1507),
+        "near" => accepted_lines(&mut random, 150, 1010..1040),
+        "cancelling" => cancelling_lines(&mut random, 80),
+        "boundaries" => joined((0..200).map(|_| any_line(&mut random).into_bytes())),
+        "damaged" => joined((0..200).map(|_| damaged_line(&mut random))),
+        _ => (0..1500)
+            .map(|_| stray_byte_or_line_feed(&mut random))
             .collect(),
-        _ => return None,
     })
 }
 
@@ -206,6 +206,13 @@ fn stray_byte(random: &mut Generator) -> u8 {
     }
 }
 
+fn stray_byte_or_line_feed(random: &mut Generator) -> u8 {
+    match random.one_in(8) {
+        true => b'\n',
+        false => stray_byte(random),
+    }
+}
+
 fn damage(random: &mut Generator, line: &mut Vec<u8>) {
     let at = random.below(line.len() as u64 + 1) as usize;
     let inside = at.min(line.len().saturating_sub(1));
@@ -239,7 +246,7 @@ mod tests {
 
     #[test]
     fn good_lines_are_accepted() {
-        for (name, lines) in [("wide", 300), ("near", 300), ("cancelling", 301)] {
+        for (name, lines) in [("wide", 150), ("near", 150), ("cancelling", 161)] {
             let text = report(&sheet(name).unwrap(), CAPACITY);
             assert!(text.starts_with("sum\t") && text.ends_with(&format!("\t{lines}\n")));
         }
@@ -249,7 +256,7 @@ mod tests {
     fn cancelling_lines_leave_the_least_product() {
         // 2^-511 by itself is 2^-1022, the least normal number
         let text = report(&sheet("cancelling").unwrap(), CAPACITY);
-        assert_eq!(text, "sum\t0010000000000000\t301\n");
+        assert_eq!(text, "sum\t0010000000000000\t161\n");
     }
 
     #[test]
