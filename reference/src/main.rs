@@ -16,8 +16,8 @@ const USAGE: &str = "usage:
   reference sheet < FILE     the report of a sheet
   reference sheets DIR       for each file of DIR, by name: '== NAME' and its report
   reference names DIR        the names of these files, one to a line
-  reference generate NAME    a generated sheet: wide, near, cancelling, boundaries,
-                             damaged or bytes
+  reference generate NAME    a generated sheet: wide, near, cancelling-wide, cancelling-near,
+                             boundaries, damaged or bytes
   reference round DIRECTION WIDTH
                              reads lines 'HEX POWER', an integer times 2^POWER, and prints
                              the pattern of each. DIRECTION: nearest, zero, up, down.
