@@ -1,2 +1,5 @@
 //! Condensers: they keep the exact sum of the pieces put into them, and hand it out as few summands.
+mod binary64;
 pub mod condenser;
+pub mod pairing_table;
+mod summands;

@@ -1,0 +1,7 @@
+-- Lemmas of `condensers` that several proofs share.
+pub mod Handed
+pub mod ExactSums
+pub mod Patterns
+pub mod Standing
+pub mod Tables
+pub mod Entering

@@ -1,0 +1,90 @@
+//! A piece as a binary64 number, a binary64 number as a summand, its place by exponent field and genus, and the exact sum of two numbers of one place.
+ghost use mathlib.Core.Path.{_≡_};
+ghost use Prim.Native.Nat.{_+_, _*_, _^_, _<_, _≤_};
+ghost use lib.Dec.{T};
+ghost use lib.IntN.{natAbs, _+ℤ_};
+ghost use lib.Ieee.{binary64, add, fits, toBits};
+ghost use Rattle.std.specs.declared.option.Option.the-variants.{Some};
+ghost use Rattle.numbers.specs.Products.{pieceUnits};
+ghost use Rattle.numbers.specs.Units.{floatValue};
+ghost use Rattle.condensers.specs.Fields.{field, height, significand as significandIn};
+ghost use Rattle.condensers.specs.Handed.{limited};
+ghost use Rattle.condensers.specs.Pairing.{floatUnits, size, placeOf, rangeLimit, summandOf};
+use crate::summands::summand_at;
+use numbers::piece::Piece;
+use numbers::piece::Summand;
+
+/// The weight of the exponent field in a pattern.
+const FIELD: u64 = 0x10_0000_0000_0000;
+/// The sign bit of a pattern.
+const SIGN: u64 = 0x8000_0000_0000_0000;
+
+/// The pattern of the positive number significand × 2^rank units.
+fn pattern_of(significand: u64, rank: u32) -> u64
+    requires above { ⌜ 0 < significand ⌝ }
+    requires short { ⌜ significand ≤ 2 ^ 52 ⌝ }
+    requires within { ⌜ rank ≤ 2042 ⌝ }
+    ensures positive { λ r. ⌜ r < 2 ^ 63 ⌝ }
+    ensures finite { λ r. ⌜ field r < 2047 ⌝ }
+    ensures value { λ r. ⌜ significandIn r * 2 ^ height r ≡ significand * 2 ^ rank ⌝ }
+{
+    let room = significand.leading_zeros() - 11;
+    let shift = if room < rank { room } else { rank };
+    (rank - shift) as u64 * FIELD + (significand << shift)
+}
+
+/// The binary64 number that has the piece's value.
+pub(crate) fn number_of(piece: Piece) -> f64
+    ensures value { λ r. ⌜ floatValue r ≡ Some (pieceUnits piece) ⌝ }
+    ensures finite { λ r. ⌜ field (toBits binary64 r) < 2047 ⌝ }
+{
+    if piece.significand == 0 {
+        return 0.0;
+    }
+    let rank = (piece.exponent + 1074) as u32;
+    let pattern = pattern_of(piece.significand, rank);
+    if piece.negative {
+        f64::from_bits(SIGN + pattern)
+    } else {
+        f64::from_bits(pattern)
+    }
+}
+
+/// The place of a number: two for every exponent field, one for each lowest fraction bit (the genus).
+pub(crate) fn place_of(number: f64) -> usize
+    requires { ⌜ field (toBits binary64 number) < 2047 ⌝ }
+    ensures answer { λ r. ⌜ r ≡ placeOf number ⌝ }
+{
+    let bits = number.to_bits();
+    let field = bits / FIELD % 2048;
+    (2 * field + bits % 2) as usize
+}
+
+/// The sum of two numbers of one place by one binary64 addition, which is exact.
+pub(crate) fn sum_of_pair(a: f64, b: f64) -> f64
+    requires finite { ⌜ field (toBits binary64 a) < 2047 ⌝ }
+    requires paired { ⌜ placeOf a ≡ placeOf b ⌝ }
+    requires within { ⌜ size a + size b < rangeLimit ⌝ }
+    ensures answer { λ r. ⌜ r ≡ add binary64 a b ⌝ }
+    ensures value { λ r. ⌜ floatValue r ≡ Some (floatUnits a +ℤ floatUnits b) ⌝ }
+    ensures finite { λ r. ⌜ field (toBits binary64 r) < 2047 ⌝ }
+{
+    a + b
+}
+
+/// The summand of what stands at a place: its sign, its significand and the exponent of its lowest bit.
+pub(crate) fn summand_of(entry: f64) -> Summand
+    requires finite { ⌜ field (toBits binary64 entry) < 2047 ⌝ }
+    requires limits { ⌜ T (limited (significandIn (toBits binary64 entry)) (height (toBits binary64 entry))) ⌝ }
+    ensures answer { λ r. ⌜ r ≡ summandOf entry ⌝ }
+{
+    let bits = entry.to_bits();
+    let negative = bits >= SIGN;
+    let field = (bits / FIELD % 2048) as u32;
+    let fraction = bits % FIELD;
+    if field == 0 {
+        summand_at(negative, fraction, 0)
+    } else {
+        summand_at(negative, FIELD + fraction, field - 1)
+    }
+}
