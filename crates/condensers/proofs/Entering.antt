@@ -1,10 +1,10 @@
 -- One turn of a number on its way through a table: it is stored at an empty place, or paired with what stands there. Assumes nothing.
-use mathlib.Core.Path.{_≡_, refl, sym, ap, ap₂, _∙_, subst}
+use mathlib.Core.Path.{_≡_, sym, ap, _∙_, subst}
 use mathlib.Core.Logic.{_≢_}
 use mathlib.Core.List.{List}
 use mathlib.Core.Bool.{Bool, true, false, not}
-use Prim.Native.Nat.{ℕ, _+_, _*_, _≤_, _<_, _^_, _%_}
-use native.Mathlib.Nat.{mul-le-mul-right, zero-add, mod-lt, le-trans, lt-of-le-of-lt}
+use Prim.Native.Nat.{ℕ, _+_, _*_, _≤_, _<_, _^_}
+use native.Mathlib.Nat.{mul-le-mul-right, zero-add, le-trans, lt-of-le-of-lt}
 use native.Mathlib.Omega.{arith}
 use lib.Dec.{T, lit<}
 use lib.IntN.{ℤ, pos, _+ℤ_, natAbs, +ℤ-idr}
@@ -14,8 +14,9 @@ use borrow.Author.Differences.{ints}
 use borrow.Author.Tests.{not-true, not-false}
 use Rattle.std.specs.declared.option.Option.the-variants.{Some}
 use Rattle.numbers.specs.Units.{floatValue}
-use Rattle.condensers.specs.Fields.{field, place}
-use Rattle.condensers.specs.Pairing.{floatUnits, size, empty, placeOf, stands, standFrom, totalOf, sumOf, pieceLimit, rangeLimit, Enters, vanished, stored, paired}
+use Rattle.numbers.specs.Patterns.{fieldOf}
+use Rattle.condensers.specs.Fields.{place}
+use Rattle.condensers.specs.Pairing.{floatUnits, size, empty, placeOf, stands, standFrom, totalOf, sumOf, pieceLimit, rangeLimit, Enters, stored, paired}
 use Rattle.condensers.proofs.Patterns.{number-is}
 use Rattle.condensers.proofs.Standing.{zero-test, nonzero-test, standing-fits, standing-field, standing-empty, standing-place, stands-there, empty-stands, empty-value}
 use Rattle.condensers.proofs.Tables.{stands-at, stands-set, total-set, sum-set, size-none, taken, taken-none, taken-one}
@@ -42,7 +43,7 @@ pub record Turn (t : List Float) (n : ℕ) (x : Float) (k : ℕ) : Type 0 where
   pub standing : T (standFrom 0 t)
   pub few : n ≤ 67108864
   pub fitting : T (fits binary64 x)
-  pub finite : field (toBits binary64 x) < 2047
+  pub finite : fieldOf (toBits binary64 x) < 2047
   pub within : size x + sumOf size t ≤ n * pieceLimit
   pub moves : ne x (ofBits binary64 0) ≡ true
   pub there : k ≡ placeOf x
@@ -136,7 +137,7 @@ module _ {t : List Float} {n : ℕ} {x : Float} {k : ℕ} (w : Turn t n x k) whe
 -- what lasts from turn to turn, since the number x₀ entered the table t₀ of count n₀
 pub record OnWay (t₀ : List Float) (n₀ : ℕ) (x₀ : Float) (t : List Float) (n : ℕ) (x : Float) : Type 0 where
   pub fitting : T (fits binary64 x)
-  pub finite : field (toBits binary64 x) < 2047
+  pub finite : fieldOf (toBits binary64 x) < 2047
   pub within : size x + sumOf size t ≤ n * pieceLimit
   pub counted : n ≡ n₀
   pub total : totalOf t +ℤ floatUnits x ≡ totalOf t₀ +ℤ floatUnits x₀

@@ -2,6 +2,8 @@
 pub mod Handed
 pub mod ExactSums
 pub mod Patterns
+pub mod Pairs
+pub mod Building
 pub mod Standing
 pub mod Tables
 pub mod Entering

@@ -2,21 +2,21 @@
 use mathlib.Core.Path.{_≡_, refl, sym, ap, _∙_, subst}
 use mathlib.Core.Logic.{_⊎_, inl, inr, _≢_}
 use mathlib.Core.Bool.{Bool, true, false, not, _&&_, _||_, Bool·beq, true≢false}
-use Prim.Native.Nat.{ℕ, zero, suc, _+_, _-_, _*_, _/_, _%_, _^_, _≤_, _<_}
-use native.Mathlib.Nat.{mul-pos, lt-irrefl, eq-zero-or-pos, zero-mul, mul-one}
+use Prim.Native.Nat.{ℕ, zero, suc, _+_, _*_, _%_, _^_, _<_}
+use native.Mathlib.Nat.{mul-pos, lt-irrefl, zero-mul, mul-one}
 use native.Mathlib.Omega.{arith}
-use lib.Dec.{T, eqb, ltb, leb, eqb→eq, eqb-refl, not-T, T-not, ltb→lt, lt→ltb, lit<}
+use lib.Dec.{T, eqb, ltb, eqb→eq, eqb-refl, not-T, T-not, ltb→lt, lt→ltb, lit<}
 use lib.Pow.{pow-pos}
-use lib.IntN.{ℤ, pos, negsuc, negℤ, natAbs}
-use lib.Ieee.{Float, nan, inf, fin, binary64, up, down, fits, eq, ne, ofBits, toBits}
+use lib.IntN.{pos}
+use lib.Ieee.{Float, nan, inf, fin, binary64, up, down, fits, eq, ofBits, toBits}
 use lib.Ieee.Exact.{HasValue}
 use lib.Ieee.Fits.{and-i, and-l, and-r, up-pos, eq→eqb}
 use lib.Ieee.Bits.{ofBits-toBits, ofBits-fits, is-true}
-use borrow.Author.Tests.{eq-eqb}
 use Rattle.numbers.specs.Units.{rank, signed, units, floatValue}
 use Rattle.numbers.proofs.Scale.{units-zero, signed-zero}
-use Rattle.condensers.specs.Fields.{minus, field, leading, significand, height, place}
-use Rattle.condensers.specs.Pairing.{floatUnits, size, empty, placeOf, stands}
+use Rattle.numbers.specs.Patterns.{signOf, fieldOf}
+use Rattle.condensers.specs.Fields.{leading, significandOf, heightOf}
+use Rattle.condensers.specs.Pairing.{floatUnits, empty, placeOf, stands}
 use Rattle.condensers.proofs.Patterns.{float-value, number-fields, number-is, pattern-number, pattern-again}
 
 -- ---- the comparison with 0.0
@@ -63,31 +63,31 @@ zero-level (fin t m k) s a c v e = same-as-zero t m (up k) (down k) (factor-zero
 pub zero-test : (x : Float) → eq x (ofBits binary64 0) ≡ true → floatUnits x ≡ pos 0
 zero-test x h = level-zero x (subst (λ (y : Float). T (eq x y)) zero-is (subst T (sym h) tt))
 
-pub nonzero-test : (x : Float) → T (fits binary64 x) → field (toBits binary64 x) < 2047 → eq x (ofBits binary64 0) ≡ false → floatUnits x ≢ pos 0
+pub nonzero-test : (x : Float) → T (fits binary64 x) → fieldOf (toBits binary64 x) < 2047 → eq x (ofBits binary64 0) ≡ false → floatUnits x ≢ pos 0
 nonzero-test x f k h e =
     let t = zero-level x _ _ _ (float-value x f k) e in
     true≢false (sym (is-true (eq x (ofBits binary64 0)) (subst (λ (y : Float). T (eq x y)) (sym zero-is) t)) ∙ h)
 
 -- ---- a number that stands at a place
 
-no-bits : (b : ℕ) → significand b ≡ 0 → b % 2 ^ 63 ≡ 0
-no-bits b h = go (field b) refl h
+no-bits : (b : ℕ) → significandOf b ≡ 0 → b % 2 ^ 63 ≡ 0
+no-bits b h = go (fieldOf b) refl h
   where
-    go : (x : ℕ) → field b ≡ x → leading x + b % 2 ^ 52 ≡ 0 → b % 2 ^ 63 ≡ 0
+    go : (x : ℕ) → fieldOf b ≡ x → leading x + b % 2 ^ 52 ≡ 0 → b % 2 ^ 63 ≡ 0
     go zero e k = omega arith
     go (suc x) e k = absurd (omega arith)
 
-no-size : (b : ℕ) → b % 2 ^ 63 ≡ 0 → significand b ≡ 0
-no-size b h = go (field b) refl
+no-size : (b : ℕ) → b % 2 ^ 63 ≡ 0 → significandOf b ≡ 0
+no-size b h = go (fieldOf b) refl
   where
-    go : (x : ℕ) → field b ≡ x → leading x + b % 2 ^ 52 ≡ 0
+    go : (x : ℕ) → fieldOf b ≡ x → leading x + b % 2 ^ 52 ≡ 0
     go zero e = omega arith
     go (suc x) e = absurd (omega arith)
 
 -- the two ways to stand
 data Stands (k : ℕ) (x : Float) : Type 0 where
   nothing : toBits binary64 x ≡ 0 → Stands k x
-  something : toBits binary64 x % 2 ^ 63 ≢ 0 → field (toBits binary64 x) < 2047 → placeOf x ≡ k → Stands k x
+  something : toBits binary64 x % 2 ^ 63 ≢ 0 → fieldOf (toBits binary64 x) < 2047 → placeOf x ≡ k → Stands k x
 
 either : (a b : Bool) → T (a || b) → T a ⊎ T b
 either true b t = inl tt
@@ -97,7 +97,7 @@ ways : (k : ℕ) (x : Float) → T (stands k x) → Stands k x
 unfolding stands
 ways k x t =
     let b = toBits binary64 x in
-    let inner = ltb (field b) 2047 && eqb (placeOf x) k in
+    let inner = ltb (fieldOf b) 2047 && eqb (placeOf x) k in
     let outer = not (eqb (b % 2 ^ 63) 0) && inner in
     elim (either (eqb b 0) outer (and-r (fits binary64 x) (eqb b 0 || outer) t)) [
       | inl e ↦ nothing (eqb→eq b 0 e)
@@ -105,19 +105,19 @@ ways k x t =
           let v = and-r (not (eqb (b % 2 ^ 63) 0)) inner u in
           something
           (λ z. T-not (eqb (b % 2 ^ 63) 0) (and-l (not (eqb (b % 2 ^ 63) 0)) inner u) (eq→eqb z))
-          (ltb→lt (field b) 2047 (and-l (ltb (field b) 2047) (eqb (placeOf x) k) v))
-          (eqb→eq (placeOf x) k (and-r (ltb (field b) 2047) (eqb (placeOf x) k) v))
+          (ltb→lt (fieldOf b) 2047 (and-l (ltb (fieldOf b) 2047) (eqb (placeOf x) k) v))
+          (eqb→eq (placeOf x) k (and-r (ltb (fieldOf b) 2047) (eqb (placeOf x) k) v))
     ]
 
 pub standing-fits : (k : ℕ) (x : Float) → T (stands k x) → T (fits binary64 x)
 unfolding stands
-standing-fits k x t = and-l (fits binary64 x) (eqb (toBits binary64 x) 0 || (not (eqb (toBits binary64 x % 2 ^ 63) 0) && (ltb (field (toBits binary64 x)) 2047 && eqb (placeOf x) k))) t
+standing-fits k x t = and-l (fits binary64 x) (eqb (toBits binary64 x) 0 || (not (eqb (toBits binary64 x % 2 ^ 63) 0) && (ltb (fieldOf (toBits binary64 x)) 2047 && eqb (placeOf x) k))) t
 
-pub standing-field : (k : ℕ) (x : Float) → T (stands k x) → field (toBits binary64 x) < 2047
+pub standing-field : (k : ℕ) (x : Float) → T (stands k x) → fieldOf (toBits binary64 x) < 2047
 standing-field k x t = go (ways k x t)
   where
-    go : Stands k x → field (toBits binary64 x) < 2047
-    go (nothing e) = subst (λ (b : ℕ). field b < 2047) (sym e) (lit< tt)
+    go : Stands k x → fieldOf (toBits binary64 x) < 2047
+    go (nothing e) = subst (λ (b : ℕ). fieldOf b < 2047) (sym e) (lit< tt)
     go (something n l p) = l
 
 -- a place whose value is zero is empty
@@ -132,7 +132,7 @@ standing-empty k x t z = go (ways k x t)
     go (nothing e) = sym (ofBits-toBits binary64 x f) ∙ ap (ofBits binary64) e
     go (something n l p) =
         let b = toBits binary64 x in
-        absurd (n (no-bits b (factor-zero (significand b) (2 ^ height b) (pow-pos (height b)) (size-zero (minus b) (significand b * 2 ^ height b) (sym (number-fields x f l) ∙ z)))))
+        absurd (n (no-bits b (factor-zero (significandOf b) (2 ^ heightOf b) (pow-pos (heightOf b)) (size-zero (signOf b) (significandOf b * 2 ^ heightOf b) (sym (number-fields x f l) ∙ z)))))
 
 pub empty-value : floatUnits empty ≡ pos 0
 unfolding empty
@@ -150,23 +150,23 @@ or-i : (a b : Bool) → T b → T (a || b)
 or-i true b t = tt
 or-i false b t = t
 
-pub stands-there : (x : Float) → T (fits binary64 x) → field (toBits binary64 x) < 2047 → floatUnits x ≢ pos 0 → T (stands (placeOf x) x)
+pub stands-there : (x : Float) → T (fits binary64 x) → fieldOf (toBits binary64 x) < 2047 → floatUnits x ≢ pos 0 → T (stands (placeOf x) x)
 unfolding stands
 stands-there x f l z =
     let b = toBits binary64 x in
-    let n : b % 2 ^ 63 ≢ 0 = λ e. z (number-fields x f l ∙ ap (λ (m : ℕ). signed (minus b) (m * 2 ^ height b)) (no-size b e) ∙ ap (signed (minus b)) (zero-mul (2 ^ height b)) ∙ signed-zero (minus b)) in
-    let inner = ltb (field b) 2047 && eqb (placeOf x) (placeOf x) in
+    let n : b % 2 ^ 63 ≢ 0 = λ e. z (number-fields x f l ∙ ap (λ (m : ℕ). signed (signOf b) (m * 2 ^ heightOf b)) (no-size b e) ∙ ap (signed (signOf b)) (zero-mul (2 ^ heightOf b)) ∙ signed-zero (signOf b)) in
+    let inner = ltb (fieldOf b) 2047 && eqb (placeOf x) (placeOf x) in
     let outer = not (eqb (b % 2 ^ 63) 0) && inner in
     and-i (fits binary64 x) (eqb b 0 || outer) f
     (or-i (eqb b 0) outer
     (and-i (not (eqb (b % 2 ^ 63) 0)) inner (not-T (eqb (b % 2 ^ 63) 0) (λ t. n (eqb→eq (b % 2 ^ 63) 0 t)))
-    (and-i (ltb (field b) 2047) (eqb (placeOf x) (placeOf x)) (lt→ltb (field b) 2047 l) (eqb-refl (placeOf x)))))
+    (and-i (ltb (fieldOf b) 2047) (eqb (placeOf x) (placeOf x)) (lt→ltb (fieldOf b) 2047 l) (eqb-refl (placeOf x)))))
 
 pub empty-stands : (k : ℕ) → T (stands k empty)
 unfolding stands empty
 empty-stands k =
     let b = toBits binary64 (ofBits binary64 0) in
-    let rest = not (eqb (b % 2 ^ 63) 0) && (ltb (field b) 2047 && eqb (placeOf (ofBits binary64 0)) k) in
+    let rest = not (eqb (b % 2 ^ 63) 0) && (ltb (fieldOf b) 2047 && eqb (placeOf (ofBits binary64 0)) k) in
     and-i (fits binary64 (ofBits binary64 0)) (eqb b 0 || rest) (ofBits-fits binary64 0) (or-l (eqb b 0) rest (eq→eqb (pattern-again 0 (lit< tt) (lit< tt))))
   where
     or-l : (a b : Bool) → T a → T (a || b)

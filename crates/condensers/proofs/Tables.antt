@@ -1,26 +1,25 @@
 -- Lists of numbers by place: what stands at each, their sums, and what one changed place changes. Assumes nothing.
 use mathlib.Core.Path.{_≡_, refl, sym, ap, ap₂, _∙_, subst}
-use mathlib.Core.Logic.{_≢_}
 use mathlib.Core.List.{List, [], _∷_, map}
-use mathlib.Core.Bool.{Bool, true, false, _&&_, cond}
-use Prim.Native.Nat.{ℕ, zero, suc, _+_, _-_, _*_, _^_, _≤_, _<_}
+use mathlib.Core.Bool.{Bool, false, _&&_, cond}
+use Prim.Native.Nat.{ℕ, zero, suc, _+_, _*_, _^_, _≤_, _<_}
 use native.Mathlib.Nat.{add-zero, add-suc, suc-add, not-suc-le-zero, le-of-suc-le-suc, le-trans, le-of-eq, zero-mul}
 use native.Mathlib.Omega.{arith}
 use lib.Dec.{T, ltb, leb, lt→ltb, le→leb, lit≤}
 use lib.IntN.{ℤ, pos, _+ℤ_, natAbs}
 use lib.ListN.{length, getD, set, replicate}
-use lib.Ieee.{Float, nan, binary64, fits, eq, ofBits, toBits}
+use lib.Ieee.{Float, nan, binary64, eq, ofBits, toBits}
 use lib.Ieee.Fits.{and-i, and-l, and-r}
 use borrow.Author.Differences.{ints}
-use Rattle.numbers.specs.declared.piece.Summand.{Summand}
-use Rattle.numbers.specs.Units.{signed}
 use Rattle.numbers.specs.Products.{summandUnits}
 use Rattle.condensers.specs.Meaning.{sumUnits}
-use Rattle.condensers.specs.Fields.{minus, field, significand, height}
+use Rattle.numbers.specs.Patterns.{signOf}
+use Rattle.condensers.specs.Fields.{significandOf, heightOf}
 use Rattle.condensers.specs.Handed.{limited}
 use Rattle.condensers.specs.Pairing.{floatUnits, size, empty, stands, standFrom, totalOf, sumOf, pieceLimit, summandOf}
 use Rattle.condensers.proofs.Handed.{summandAt-units}
-use Rattle.condensers.proofs.Patterns.{number-fields, size-fields, significand-lt}
+use Rattle.condensers.proofs.Patterns.{number-fields, size-fields}
+use Rattle.condensers.proofs.Pairs.{significand-lt}
 use Rattle.condensers.proofs.Standing.{standing-fits, standing-field, empty-stands, empty-value}
 
 -- ---- what stands at each place
@@ -103,17 +102,17 @@ full : 67108864 * pieceLimit ≤ 2 ^ 2080
 unfolding pieceLimit
 full = lit≤ tt
 
-pub standing-limited : (k : ℕ) (x : Float) → T (stands k x) → size x ≤ 67108864 * pieceLimit → T (limited (significand (toBits binary64 x)) (height (toBits binary64 x)))
+pub standing-limited : (k : ℕ) (x : Float) → T (stands k x) → size x ≤ 67108864 * pieceLimit → T (limited (significandOf (toBits binary64 x)) (heightOf (toBits binary64 x)))
 standing-limited k x t l =
     let b = toBits binary64 x in
     let f = standing-field k x t in
-    in-limits (significand b) (height b) (size x) (67108864 * pieceLimit) (significand-lt b) (omega arith) (size-fields x (standing-fits k x t) f) l full
+    in-limits (significandOf b) (heightOf b) (size x) (67108864 * pieceLimit) (significand-lt b) (omega arith) (size-fields x (standing-fits k x t) f) l full
 
 summandOf-units : (k : ℕ) (x : Float) → T (stands k x) → size x ≤ 67108864 * pieceLimit → summandUnits (summandOf x) ≡ floatUnits x
 unfolding summandOf
 summandOf-units k x t l =
     let b = toBits binary64 x in
-    summandAt-units (minus b) (significand b) (height b) (standing-limited k x t l) ∙ sym (number-fields x (standing-fits k x t) (standing-field k x t))
+    summandAt-units (signOf b) (significandOf b) (heightOf b) (standing-limited k x t l) ∙ sym (number-fields x (standing-fits k x t) (standing-field k x t))
 
 pub summands-add-up : (n : ℕ) (t : List Float) → T (standFrom n t) → sumOf size t ≤ 67108864 * pieceLimit → sumUnits (map summandOf t) ≡ totalOf t
 unfolding standFrom sumOf totalOf

@@ -1,27 +1,23 @@
--- The fields of a binary64 pattern, and the number they stand for: sign, significand and how far the significand's lowest bit lies above the unit of 2 ^ -1074.
-use mathlib.Core.Bool.{Bool}
-use Prim.Native.Nat.{ℕ, zero, suc, _+_, _-_, _*_, _/_, _%_, _^_}
-use lib.Dec.{leb}
-
-abbrev pub minus : ℕ → Bool
-minus b = leb (2 ^ 63) b
-
--- the exponent field
-abbrev pub field : ℕ → ℕ
-field b = b / 2 ^ 52 % 2 ^ 11
+-- A binary64 number by its pattern: the significand, how far the significand's lowest bit lies above the unit of 2^-1074, and the number's place in a pairing table.
+use Prim.Native.Nat.{ℕ, zero, suc, _+_, _-_, _*_, _%_, _^_}
+use Rattle.numbers.specs.Patterns.{fieldOf, fractionOf}
 
 -- the bit in front of the fraction
 abbrev pub leading : ℕ → ℕ
 leading zero = 0
 leading (suc x) = 2 ^ 52
 
-abbrev pub significand : ℕ → ℕ
-significand b = leading (field b) + b % 2 ^ 52
+abbrev pub significandOf : ℕ → ℕ
+significandOf b = leading (fieldOf b) + fractionOf b
 
 -- fields 0 and 1 weigh the same
-abbrev pub height : ℕ → ℕ
-height b = field b - 1
+abbrev pub heightOf : ℕ → ℕ
+heightOf b = fieldOf b - 1
 
--- the place of a number in a pairing table: two for every exponent field, one for each lowest fraction bit (the genus)
+-- the genus of a number: its lowest fraction bit
+abbrev pub genusOf : ℕ → ℕ
+genusOf b = b % 2
+
+-- two places for every exponent field, one for each genus
 abbrev pub place : ℕ → ℕ
-place b = 2 * field b + b % 2
+place b = 2 * fieldOf b + genusOf b

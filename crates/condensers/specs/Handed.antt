@@ -1,7 +1,7 @@
 -- A summand by its sign, its significand and how far the significand's lowest bit lies above the unit of 2^-1074.
-use mathlib.Core.Path.{_≡_, refl, sym, ap, subst}
-use mathlib.Core.Bool.{Bool, true, false, not, _&&_, cond, true≢false}
-use Prim.Native.Nat.{ℕ, zero, suc, _+_, _-_, _*_, _^_, _≤_, _<_, zero-le}
+use mathlib.Core.Path.{_≡_, refl, sym, subst}
+use mathlib.Core.Bool.{Bool, true, false, not, _&&_, cond}
+use Prim.Native.Nat.{ℕ, zero, suc, _-_, _*_, _^_, _≤_, _<_, zero-le}
 use native.Mathlib.Nat.{zero-mul, not-suc-le-zero, le-of-eq}
 use native.Mathlib.Omega.{arith}
 use lib.Dec.{T, leb, ltb, lit<, ltb→lt, nltb→le, leb→le}

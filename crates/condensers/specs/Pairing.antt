@@ -1,10 +1,10 @@
 -- What a pairing table holds at each place, and how a binary64 number finds its place in it.
 use mathlib.Core.Path.{_≡_}
 use mathlib.Core.Logic.{_≢_}
-use mathlib.Core.List.{List, [], _∷_, map}
-use mathlib.Core.Bool.{Bool, true, false, not, _&&_, _||_}
-use Prim.Native.Nat.{ℕ, zero, suc, _+_, _*_, _%_, _^_}
-use lib.Dec.{T, eqb, ltb}
+use mathlib.Core.List.{List, [], _∷_}
+use mathlib.Core.Bool.{Bool, true, not, _&&_, _||_}
+use Prim.Native.Nat.{ℕ, suc, _+_, _%_, _^_}
+use lib.Dec.{eqb, ltb}
 use lib.IntN.{ℤ, pos, _+ℤ_, natAbs}
 use lib.ListN.{getD, set, replicate}
 use lib.Ieee.{Float, nan, inf, fin, binary64, add, fits, ofBits, toBits}
@@ -16,7 +16,8 @@ use Rattle.numbers.specs.declared.piece.Piece.{Piece}
 use Rattle.numbers.specs.declared.piece.Summand.{Summand}
 use Rattle.numbers.specs.Products.{pieceUnits}
 use Rattle.numbers.specs.Units.{units, floatValue}
-use Rattle.condensers.specs.Fields.{minus, field, significand, height, place}
+use Rattle.numbers.specs.Patterns.{signOf, fieldOf}
+use Rattle.condensers.specs.Fields.{significandOf, heightOf, place}
 use Rattle.condensers.specs.Handed.{summandAt}
 
 -- a finite float's value in units
@@ -73,7 +74,7 @@ size x = natAbs (floatUnits x)
 unfoldable pub stands : ℕ → Float → Bool
 stands k x =
     fits binary64 x
-    && (eqb (toBits binary64 x) 0 || (not (eqb (toBits binary64 x % 2 ^ 63) 0) && (ltb (field (toBits binary64 x)) 2047 && eqb (placeOf x) k)))
+    && (eqb (toBits binary64 x) 0 || (not (eqb (toBits binary64 x % 2 ^ 63) 0) && (ltb (fieldOf (toBits binary64 x)) 2047 && eqb (placeOf x) k)))
 
 -- so does each number of the list at its own place, the first at k
 unfoldable pub standFrom : ℕ → List Float → Bool
@@ -90,4 +91,4 @@ rangeLimit = 2 ^ 2098
 
 -- what a place hands out: its number's sign, significand and exponent
 unfoldable pub summandOf : Float → Summand
-summandOf x = let b = toBits binary64 x in summandAt (minus b) (significand b) (height b)
+summandOf x = let b = toBits binary64 x in summandAt (signOf b) (significandOf b) (heightOf b)

@@ -2,12 +2,13 @@
 ghost use mathlib.Core.Path.{_≡_};
 ghost use Prim.Native.Nat.{_+_, _*_, _^_, _<_, _≤_};
 ghost use lib.Dec.{T};
-ghost use lib.IntN.{natAbs, _+ℤ_};
-ghost use lib.Ieee.{binary64, add, fits, toBits};
+ghost use lib.IntN.{_+ℤ_};
+ghost use lib.Ieee.{binary64, add, toBits};
 ghost use Rattle.std.specs.declared.option.Option.the-variants.{Some};
+ghost use Rattle.numbers.specs.Patterns.{fieldOf};
 ghost use Rattle.numbers.specs.Products.{pieceUnits};
 ghost use Rattle.numbers.specs.Units.{floatValue};
-ghost use Rattle.condensers.specs.Fields.{field, height, significand as significandIn};
+ghost use Rattle.condensers.specs.Fields.{significandOf, heightOf};
 ghost use Rattle.condensers.specs.Handed.{limited};
 ghost use Rattle.condensers.specs.Pairing.{floatUnits, size, placeOf, rangeLimit, summandOf};
 use crate::summands::summand_at;
@@ -25,8 +26,8 @@ fn pattern_of(significand: u64, rank: u32) -> u64
     requires short { ⌜ significand ≤ 2 ^ 52 ⌝ }
     requires within { ⌜ rank ≤ 2042 ⌝ }
     ensures positive { λ r. ⌜ r < 2 ^ 63 ⌝ }
-    ensures finite { λ r. ⌜ field r < 2047 ⌝ }
-    ensures value { λ r. ⌜ significandIn r * 2 ^ height r ≡ significand * 2 ^ rank ⌝ }
+    ensures finite { λ r. ⌜ fieldOf r < 2047 ⌝ }
+    ensures value { λ r. ⌜ significandOf r * 2 ^ heightOf r ≡ significand * 2 ^ rank ⌝ }
 {
     let room = significand.leading_zeros() - 11;
     let shift = if room < rank { room } else { rank };
@@ -36,7 +37,7 @@ fn pattern_of(significand: u64, rank: u32) -> u64
 /// The binary64 number that has the piece's value.
 pub(crate) fn number_of(piece: Piece) -> f64
     ensures value { λ r. ⌜ floatValue r ≡ Some (pieceUnits piece) ⌝ }
-    ensures finite { λ r. ⌜ field (toBits binary64 r) < 2047 ⌝ }
+    ensures finite { λ r. ⌜ fieldOf (toBits binary64 r) < 2047 ⌝ }
 {
     if piece.significand == 0 {
         return 0.0;
@@ -52,7 +53,7 @@ pub(crate) fn number_of(piece: Piece) -> f64
 
 /// The place of a number: two for every exponent field, one for each lowest fraction bit (the genus).
 pub(crate) fn place_of(number: f64) -> usize
-    requires { ⌜ field (toBits binary64 number) < 2047 ⌝ }
+    requires { ⌜ fieldOf (toBits binary64 number) < 2047 ⌝ }
     ensures answer { λ r. ⌜ r ≡ placeOf number ⌝ }
 {
     let bits = number.to_bits();
@@ -62,20 +63,20 @@ pub(crate) fn place_of(number: f64) -> usize
 
 /// The sum of two numbers of one place by one binary64 addition, which is exact.
 pub(crate) fn sum_of_pair(a: f64, b: f64) -> f64
-    requires finite { ⌜ field (toBits binary64 a) < 2047 ⌝ }
+    requires finite { ⌜ fieldOf (toBits binary64 a) < 2047 ⌝ }
     requires paired { ⌜ placeOf a ≡ placeOf b ⌝ }
     requires within { ⌜ size a + size b < rangeLimit ⌝ }
     ensures answer { λ r. ⌜ r ≡ add binary64 a b ⌝ }
     ensures value { λ r. ⌜ floatValue r ≡ Some (floatUnits a +ℤ floatUnits b) ⌝ }
-    ensures finite { λ r. ⌜ field (toBits binary64 r) < 2047 ⌝ }
+    ensures finite { λ r. ⌜ fieldOf (toBits binary64 r) < 2047 ⌝ }
 {
     a + b
 }
 
 /// The summand of what stands at a place: its sign, its significand and the exponent of its lowest bit.
 pub(crate) fn summand_of(entry: f64) -> Summand
-    requires finite { ⌜ field (toBits binary64 entry) < 2047 ⌝ }
-    requires limits { ⌜ T (limited (significandIn (toBits binary64 entry)) (height (toBits binary64 entry))) ⌝ }
+    requires finite { ⌜ fieldOf (toBits binary64 entry) < 2047 ⌝ }
+    requires limits { ⌜ T (limited (significandOf (toBits binary64 entry)) (heightOf (toBits binary64 entry))) ⌝ }
     ensures answer { λ r. ⌜ r ≡ summandOf entry ⌝ }
 {
     let bits = entry.to_bits();

@@ -1,12 +1,12 @@
 //! The pairing table: a condenser that keeps binary64 numbers, each at the place of its exponent field and lowest fraction bit, and adds two of one place exactly.
 ghost use mathlib.Core.Path.{_≡_};
 ghost use mathlib.Core.List.{map};
-ghost use Prim.Native.Nat.{ℕ, _+_, _*_, _<_, _≤_};
+ghost use Prim.Native.Nat.{_+_, _*_, _<_, _≤_};
 ghost use lib.Dec.{T};
 ghost use lib.IntN.{pos, _+ℤ_};
 ghost use lib.ListN.{length};
 ghost use lib.Ieee.{binary64, toBits};
-ghost use Rattle.condensers.specs.Fields.{field};
+ghost use Rattle.numbers.specs.Patterns.{fieldOf};
 ghost use Rattle.condensers.specs.Meaning.{PutAnswer, PutAfter};
 ghost use Rattle.condensers.specs.Pairing.{floatUnits, size, totalOf, sumOf, standFrom, pieceLimit, summandOf, emptyTable, Enters, PutEnters};
 use crate::binary64::number_of;
@@ -51,7 +51,7 @@ impl PairingTable {
 
     /// Takes a number in: while its place is occupied, it is added to what stands there and the place is emptied.
     fn enter(&mut self, number: f64)
-        requires finite { ⌜ field (toBits binary64 number) < 2047 ⌝ }
+        requires finite { ⌜ fieldOf (toBits binary64 number) < 2047 ⌝ }
         requires within { ⌜ size number + sumOf size (now self .entries) ≤ now self .count * pieceLimit ⌝ }
         ensures total { λ _. ⌜ totalOf (now (self .exit) .entries) ≡ totalOf (now (self .entry) .entries) +ℤ floatUnits number ⌝ }
         ensures count { λ _. ⌜ now (self .exit) .count ≡ now (self .entry) .count ⌝ }

@@ -1,12 +1,11 @@
 -- The pattern of the piece's size, with its sign bit, is read as the piece's value. Assumes nothing.
 use mathlib.Core.Path.{_≡_, refl, sym, ap, ap₂, subst, _∙_}
-use mathlib.Core.Bool.{Bool, true, false}
 use Prim.Native.Nat.{ℕ, _+_, _-_, _*_, _%_, _^_, _<_}
 use native.Mathlib.Omega.{arith}
 use lib.IntN.{ℤ, pos, negsuc, natAbs, _+ℤ_}
 use lib.Signed.{_≤ℤ_}
 use lib.Dec.{lit<}
-use lib.Ieee.{binary64, ofBits, toBits}
+use lib.Ieee.{binary64, ofBits}
 use mir.Syntax.{w32}
 use mir.Val.{toZ, ofZ}
 use borrow.Author.Differences.{ints}
@@ -15,16 +14,18 @@ use Rattle.numbers.specs.declared.piece.Piece.{Piece}
 use Rattle.numbers.specs.Units.{rank, signed, units, floatValue}
 use Rattle.numbers.specs.Products.{pieceUnits}
 use Rattle.numbers.proofs.Scale.{rank-is, units-zero}
-use Rattle.condensers.specs.Fields.{minus, field, leading, significand, height}
-use Rattle.condensers.proofs.Patterns.{pattern-no-nan, pattern-number, pattern-again, plus-sign, minus-sign, signed-field, signed-fraction}
+use Rattle.numbers.specs.Patterns.{signOf, fieldOf}
+use Rattle.condensers.specs.Fields.{leading, significandOf, heightOf}
+use Rattle.condensers.proofs.Patterns.{pattern-no-nan, pattern-number, pattern-again}
+use Rattle.condensers.proofs.Building.{plus-sign, minus-sign, signed-field, signed-fraction}
 use Rattle.condensers.proofs.binary64.number_of.Needs as need
 
 code-rank : (e : ℤ) → negsuc 1071 ≤ℤ e → e ≤ℤ pos 916 → natAbs (toZ w32 (ofZ w32 (toZ w32 (ofZ w32 e) +ℤ pos 1074))) ≡ rank e
 code-rank e l h = omega (arith, ints, rank-is e (omega (arith, ints)))
 
 -- the value of a piece whose size is the one of the pattern p
-made : (piece : Piece) (b p R : ℕ) → minus b ≡ piece .negative → field b ≡ field p → b % 2 ^ 52 ≡ p % 2 ^ 52 → field p < 2047
-    → significand p * 2 ^ height p ≡ piece .significand * 2 ^ R → R ≡ rank (piece .exponent) → floatValue (ofBits binary64 b) ≡ Some (pieceUnits piece)
+made : (piece : Piece) (b p R : ℕ) → signOf b ≡ piece .negative → fieldOf b ≡ fieldOf p → b % 2 ^ 52 ≡ p % 2 ^ 52 → fieldOf p < 2047
+    → significandOf p * 2 ^ heightOf p ≡ piece .significand * 2 ^ R → R ≡ rank (piece .exponent) → floatValue (ofBits binary64 b) ≡ Some (pieceUnits piece)
 unfolding units
 made piece b p R s f t h e r =
     pattern-number b (subst (λ (x : ℕ). x < 2047) (sym f) h)
@@ -36,7 +37,7 @@ nothing = pattern-number 0 (lit< tt)
 pub returns-then-piece-eq0 : need.returns-then-piece-eq0
 returns-then-piece-eq0 c = record {
   value = nothing ∙ ap Some (sym (ap (λ (m : ℕ). units (c .args .piece .negative) m (c .args .piece .exponent)) (c .if-piece-eq0 .taken) ∙ units-zero (c .args .piece .negative) (c .args .piece .exponent)));
-  finite = subst (λ (x : ℕ). field x < 2047) (sym (pattern-again 0 (lit< tt) (lit< tt))) (lit< tt);
+  finite = subst (λ (x : ℕ). fieldOf x < 2047) (sym (pattern-again 0 (lit< tt) (lit< tt))) (lit< tt);
 }
 
 pub float-from-bits-result : need.float-from-bits-result
@@ -50,10 +51,10 @@ returns-then-piece c =
     let piece = c .args .piece in
     let p = c .pattern-of-pattern .result in
     let t = c .pattern-of-pattern .ensures in
-    let f : field (2 ^ 63 + p) < 2047 = subst (λ (x : ℕ). x < 2047) (sym (signed-field p)) (t .finite) in
+    let f : fieldOf (2 ^ 63 + p) < 2047 = subst (λ (x : ℕ). x < 2047) (sym (signed-field p)) (t .finite) in
     record {
       value = made piece (2 ^ 63 + p) p _ (minus-sign p ∙ sym (c .if-piece .taken)) (signed-field p) (signed-fraction p) (t .finite) (t .value) (code-rank (piece .exponent) (piece .low) (piece .high));
-      finite = subst (λ (x : ℕ). field x < 2047) (sym (pattern-again (2 ^ 63 + p) (omega arith) f)) f;
+      finite = subst (λ (x : ℕ). fieldOf x < 2047) (sym (pattern-again (2 ^ 63 + p) (omega arith) f)) f;
     }
 
 pub returns-else-piece : need.returns-else-piece
@@ -63,5 +64,5 @@ returns-else-piece c =
     let t = c .pattern-of-pattern .ensures in
     record {
       value = made piece p p _ (plus-sign p (t .positive) ∙ sym (c .if-piece .left)) refl refl (t .finite) (t .value) (code-rank (piece .exponent) (piece .low) (piece .high));
-      finite = subst (λ (x : ℕ). field x < 2047) (sym (pattern-again p (omega arith) (t .finite))) (t .finite);
+      finite = subst (λ (x : ℕ). fieldOf x < 2047) (sym (pattern-again p (omega arith) (t .finite))) (t .finite);
     }

@@ -1,7 +1,7 @@
 -- The significand is moved up to 53 digits, or as far as the rank allows. Assumes nothing.
 use mathlib.Core.Logic.{inl, inr}
 use native.Mathlib.Omega.{arith}
-use Rattle.condensers.proofs.Patterns.{normalised, Moved, moved-pattern}
+use Rattle.condensers.proofs.Building.{normalised, Moved, moved-pattern}
 use Rattle.condensers.proofs.binary64.pattern_of.Needs as need
 use Rattle.condensers.proofs.binary64.pattern_of.Needs.{then-room-rank, else-room-rank}
 

@@ -3,7 +3,8 @@ use mathlib.Core.Path.{refl}
 use lib.Ieee.{binary64, add}
 use lib.Ieee.Fits.{add-fits}
 use borrow.Author.Needs.{needs}
-use Rattle.condensers.proofs.Patterns.{pair-exact, finite-field}
+use Rattle.condensers.proofs.Pairs.{pair-exact}
+use Rattle.condensers.proofs.Patterns.{finite-field}
 use Rattle.condensers.proofs.binary64.sum_of_pair.Needs as need
 
 pub returns : need.returns

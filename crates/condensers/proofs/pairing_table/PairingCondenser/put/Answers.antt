@@ -1,26 +1,26 @@
 -- A piece enters as its number, whose size is at most 2^968. Assumes nothing.
-use mathlib.Core.Path.{_≡_, refl, sym, ap, subst, _∙_}
-use mathlib.Core.Bool.{Bool, true, false}
-use Prim.Native.Nat.{ℕ, zero, suc, _+_, _*_, _^_, _≤_, _<_}
+use mathlib.Core.Path.{sym, ap, subst, _∙_}
+use Prim.Native.Nat.{ℕ, _^_, _≤_}
 use native.Mathlib.Nat.{mul-le-mul}
 use native.Mathlib.Omega.{arith}
 use lib.Pow.{pow-mono}
 use lib.IntN.{ℤ, natAbs, _+ℤ_}
 use borrow.Author.Differences.{ints}
 use Rattle.numbers.specs.declared.piece.Piece.{Piece}
-use Rattle.numbers.specs.Units.{rank, signed, units}
+use Rattle.numbers.specs.Units.{rank}
 use Rattle.numbers.specs.Products.{pieceUnits}
 use Rattle.numbers.proofs.Scale.{rank-is}
+use Rattle.numbers.proofs.Window.{size-units}
 use Rattle.condensers.specs.Pairing.{size, pieceLimit, totalOf}
-use Rattle.condensers.proofs.Patterns.{number-is, size-signed}
+use Rattle.condensers.proofs.Patterns.{number-is}
 use Rattle.condensers.proofs.pairing_table.PairingCondenser.put.Needs as need
 
 -- 2^52 × 2^916 is 2^968
 piece-size : (p : Piece) → natAbs (pieceUnits p) ≤ pieceLimit
-unfolding units pieceLimit
+unfolding pieceLimit
 piece-size p =
     let r : rank (p .exponent) ≤ 1990 = omega (arith, ints, rank-is (p .exponent) (omega (arith, ints))) in
-    subst (λ (n : ℕ). n ≤ 2 ^ 2042) (sym (size-signed (p .negative) (p .significand * 2 ^ rank (p .exponent)))) (mul-le-mul (p .short) (pow-mono r))
+    subst (λ (n : ℕ). n ≤ 2 ^ 2042) (sym (size-units (p .negative) (p .significand) (p .exponent))) (mul-le-mul (p .short) (pow-mono r))
 
 pub enter-requires : need.enter-requires
 enter-requires c κs =

@@ -2,14 +2,13 @@
 use mathlib.Core.Path.{_≡_, sym, _∙_, subst}
 use Prim.Native.Nat.{ℕ, _*_, _≤_, _<_}
 use native.Mathlib.Nat.{le-trans, mul-le-mul-right, zero-add}
-use native.Mathlib.Omega.{arith}
 use lib.Dec.{T}
 use lib.ListN.{length, getD, length-map}
 use mathlib.Core.List.{map}
-use lib.Ieee.{Float, nan}
+use lib.Ieee.{nan}
 use Rattle.std.proofs.shelf.Lists.{getD-map}
 use Rattle.condensers.specs.declared.pairing_table.PairingTable.{PairingTable}
-use Rattle.condensers.specs.Pairing.{summandOf, stands, size, sumOf, pieceLimit}
+use Rattle.condensers.specs.Pairing.{summandOf, stands, size, pieceLimit}
 use Rattle.condensers.proofs.Handed.{stands-within, stands-past}
 use Rattle.condensers.proofs.Standing.{standing-field}
 use Rattle.condensers.proofs.Tables.{stands-at, sum-at, standing-limited}
