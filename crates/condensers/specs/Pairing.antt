@@ -4,7 +4,7 @@ use mathlib.Core.Logic.{_≢_}
 use mathlib.Core.List.{List, [], _∷_}
 use mathlib.Core.Bool.{Bool, true, not, _&&_, _||_}
 use Prim.Native.Nat.{ℕ, suc, _+_, _%_, _^_}
-use lib.Dec.{eqb, ltb}
+use lib.Dec.{T, eqb, ltb}
 use lib.IntN.{ℤ, pos, _+ℤ_, natAbs}
 use lib.ListN.{getD, set, replicate}
 use lib.Ieee.{Float, nan, inf, fin, binary64, add, fits, ofBits, toBits}
@@ -34,7 +34,7 @@ empty = ofBits binary64 0
 abbrev pub placeOf : Float → ℕ
 placeOf x = place (toBits binary64 x)
 
--- The floatUnits x enters the table t, which then is u: `Enters x t u`.
+-- The number x enters the table t, which then is u: `Enters x t u`.
 pub data Enters : Float → List Float → List Float → Type 0 where
   -- zero is not stored
   vanished : {x : Float} {t : List Float} → floatUnits x ≡ pos 0 → Enters x t t
@@ -46,7 +46,7 @@ pub data Enters : Float → List Float → List Float → Type 0 where
 
 -- A piece enters as the binary64 number of its value.
 abbrev pub PieceEnters : Piece → List Float → List Float → Type 0
-PieceEnters p t u = (x : Float) × (floatValue x ≡ Some (pieceUnits p)) × Enters x t u
+PieceEnters p t u = (x : Float) × T (fits binary64 x) × (floatValue x ≡ Some (pieceUnits p)) × Enters x t u
 
 -- What a put leaves at the places: an accepted piece entered, a refused one changed nothing.
 abbrev pub PutEnters : Piece → List Float → List Float → Result (Unit {0}) Refusal → Type 0

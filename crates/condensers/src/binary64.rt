@@ -25,8 +25,7 @@ fn pattern_of(significand: u64, rank: u32) -> u64
     requires above { ⌜ 0 < significand ⌝ }
     requires short { ⌜ significand ≤ 2 ^ 52 ⌝ }
     requires within { ⌜ rank ≤ 2042 ⌝ }
-    ensures positive { λ r. ⌜ r < 2 ^ 63 ⌝ }
-    ensures finite { λ r. ⌜ fieldOf r < 2047 ⌝ }
+    ensures limits { λ r. ⌜ r < 2 ^ 63 ⌝ ∗ ⌜ fieldOf r < 2047 ⌝ }
     ensures value { λ r. ⌜ significandOf r * 2 ^ heightOf r ≡ significand * 2 ^ rank ⌝ }
 {
     let room = significand.leading_zeros() - 11;
@@ -37,7 +36,7 @@ fn pattern_of(significand: u64, rank: u32) -> u64
 /// The binary64 number that has the piece's value.
 pub(crate) fn number_of(piece: Piece) -> f64
     ensures value { λ r. ⌜ floatValue r ≡ Some (pieceUnits piece) ⌝ }
-    ensures finite { λ r. ⌜ fieldOf (toBits binary64 r) < 2047 ⌝ }
+    ensures limits { λ r. ⌜ fieldOf (toBits binary64 r) < 2047 ⌝ }
 {
     if piece.significand == 0 {
         return 0.0;
@@ -68,7 +67,7 @@ pub(crate) fn sum_of_pair(a: f64, b: f64) -> f64
     requires within { ⌜ size a + size b < rangeLimit ⌝ }
     ensures answer { λ r. ⌜ r ≡ add binary64 a b ⌝ }
     ensures value { λ r. ⌜ floatValue r ≡ Some (floatUnits a +ℤ floatUnits b) ⌝ }
-    ensures finite { λ r. ⌜ fieldOf (toBits binary64 r) < 2047 ⌝ }
+    ensures limits { λ r. ⌜ fieldOf (toBits binary64 r) < 2047 ⌝ }
 {
     a + b
 }

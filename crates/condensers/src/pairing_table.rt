@@ -92,7 +92,7 @@ pub impl Condenser for PairingTable as PairingCondenser {
     fn put(&mut self, piece: Piece) -> Result<(), Refusal>
         ensures answer { λ r. ⌜ PutAnswer 67108864 (now (self .entry) .count) r ⌝ }
         ensures after { λ r. ⌜ PutAfter (λ t. totalOf (t .entries)) (λ t. t .count) piece (now (self .entry)) (now (self .exit)) r ⌝ }
-        ensures places { λ r. ⌜ PutEnters piece (now (self .entry) .entries) (now (self .exit) .entries) r ⌝ }
+        ensures kept { λ r. ⌜ PutEnters piece (now (self .entry) .entries) (now (self .exit) .entries) r ⌝ }
     {
         if self.count == CAPACITY {
             return Err(Refusal {

@@ -37,24 +37,24 @@ nothing = pattern-number 0 (lit< tt)
 pub returns-then-piece-eq0 : need.returns-then-piece-eq0
 returns-then-piece-eq0 c = record {
   value = nothing ∙ ap Some (sym (ap (λ (m : ℕ). units (c .args .piece .negative) m (c .args .piece .exponent)) (c .if-piece-eq0 .taken) ∙ units-zero (c .args .piece .negative) (c .args .piece .exponent)));
-  finite = subst (λ (x : ℕ). fieldOf x < 2047) (sym (pattern-again 0 (lit< tt) (lit< tt))) (lit< tt);
+  limits = subst (λ (x : ℕ). fieldOf x < 2047) (sym (pattern-again 0 (lit< tt) (lit< tt))) (lit< tt);
 }
 
 pub float-from-bits-result : need.float-from-bits-result
-float-from-bits-result c = pattern-no-nan (2 ^ 63 + c .pattern-of-pattern .result) (subst (λ (x : ℕ). x < 2047) (sym (signed-field (c .pattern-of-pattern .result))) (c .pattern-of-pattern .ensures .finite))
+float-from-bits-result c = pattern-no-nan (2 ^ 63 + c .pattern-of-pattern .result) (subst (λ (x : ℕ). x < 2047) (sym (signed-field (c .pattern-of-pattern .result))) (c .pattern-of-pattern .ensures .limits .1))
 
 pub float-from-bits-result-else-piece : need.float-from-bits-result-else-piece
-float-from-bits-result-else-piece c = pattern-no-nan (c .pattern-of-pattern .result) (c .pattern-of-pattern .ensures .finite)
+float-from-bits-result-else-piece c = pattern-no-nan (c .pattern-of-pattern .result) (c .pattern-of-pattern .ensures .limits .1)
 
 pub returns-then-piece : need.returns-then-piece
 returns-then-piece c =
     let piece = c .args .piece in
     let p = c .pattern-of-pattern .result in
     let t = c .pattern-of-pattern .ensures in
-    let f : fieldOf (2 ^ 63 + p) < 2047 = subst (λ (x : ℕ). x < 2047) (sym (signed-field p)) (t .finite) in
+    let f : fieldOf (2 ^ 63 + p) < 2047 = subst (λ (x : ℕ). x < 2047) (sym (signed-field p)) (t .limits .1) in
     record {
-      value = made piece (2 ^ 63 + p) p _ (minus-sign p ∙ sym (c .if-piece .taken)) (signed-field p) (signed-fraction p) (t .finite) (t .value) (code-rank (piece .exponent) (piece .low) (piece .high));
-      finite = subst (λ (x : ℕ). fieldOf x < 2047) (sym (pattern-again (2 ^ 63 + p) (omega arith) f)) f;
+      value = made piece (2 ^ 63 + p) p _ (minus-sign p ∙ sym (c .if-piece .taken)) (signed-field p) (signed-fraction p) (t .limits .1) (t .value) (code-rank (piece .exponent) (piece .low) (piece .high));
+      limits = subst (λ (x : ℕ). fieldOf x < 2047) (sym (pattern-again (2 ^ 63 + p) (omega arith) f)) f;
     }
 
 pub returns-else-piece : need.returns-else-piece
@@ -63,6 +63,6 @@ returns-else-piece c =
     let p = c .pattern-of-pattern .result in
     let t = c .pattern-of-pattern .ensures in
     record {
-      value = made piece p p _ (plus-sign p (t .positive) ∙ sym (c .if-piece .left)) refl refl (t .finite) (t .value) (code-rank (piece .exponent) (piece .low) (piece .high));
-      finite = subst (λ (x : ℕ). fieldOf x < 2047) (sym (pattern-again p (omega arith) (t .finite))) (t .finite);
+      value = made piece p p _ (plus-sign p (t .limits .0) ∙ sym (c .if-piece .left)) refl refl (t .limits .1) (t .value) (code-rank (piece .exponent) (piece .low) (piece .high));
+      limits = subst (λ (x : ℕ). fieldOf x < 2047) (sym (pattern-again p (omega arith) (t .limits .1))) (t .limits .1);
     }

@@ -22,4 +22,4 @@ returns c =
     elim (c .if-room-rank .came) [ then-room-rank w ↦ inl (w .shift-is, omega arith) | else-room-rank w ↦ inr (w .shift-is, w .if-room-rank .left) ]
     in
     let m = moved-pattern (c .args .significand) (c .args .rank) (c .if-room-rank .shift) (c .pre .above) (c .pre .short) (c .pre .within) moved in
-    record { positive = m .0; finite = m .1; value = m .2 }
+    record { limits = (m .0, m .1); value = m .2 }

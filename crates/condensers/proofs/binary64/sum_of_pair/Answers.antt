@@ -12,4 +12,4 @@ returns c =
     let a = c .args .a in
     let b = c .args .b in
     let e = pair-exact a b (search needs) (search needs) (c .pre .finite) (c .pre .paired) (c .pre .within) in
-    record { answer = refl; value = e; finite = finite-field (add binary64 a b) _ (add-fits binary64 a b) e }
+    record { answer = refl; value = e; limits = finite-field (add binary64 a b) _ (add-fits binary64 a b) e }

@@ -3,6 +3,7 @@ use mathlib.Core.Path.{sym, ap, subst, _∙_}
 use Prim.Native.Nat.{ℕ, _^_, _≤_}
 use native.Mathlib.Nat.{mul-le-mul}
 use native.Mathlib.Omega.{arith}
+use lib.Dec.{T}
 use lib.Pow.{pow-mono}
 use lib.IntN.{ℤ, natAbs, _+ℤ_}
 use borrow.Author.Differences.{ints}
@@ -26,7 +27,7 @@ pub enter-requires : need.enter-requires
 enter-requires c κs =
     let x = c .number-of .result in
     let l : size x ≤ pieceLimit = subst (λ (v : ℤ). natAbs v ≤ pieceLimit) (sym (number-is x _ (c .number-of .ensures .value))) (piece-size (c .args .piece)) in
-    record { finite = c .number-of .ensures .finite; within = omega (arith, c .args .self .now .bounded) }
+    record { finite = c .number-of .ensures .limits; within = omega (arith, c .args .self .now .bounded) }
 
 pub returns : need.returns
 returns c =
@@ -34,5 +35,5 @@ returns c =
     record {
       answer = omega (arith, t .few);
       after = (c .enter .ensures .total ∙ ap (λ (v : ℤ). totalOf (t .entries) +ℤ v) (number-is (c .number-of .result) _ (c .number-of .ensures .value)), c .enter .ensures .count);
-      places = (c .number-of .result, c .number-of .ensures .value, c .enter .ensures .after);
+      kept = (c .number-of .result, subst T (sym (c .number-of .ok)) tt, c .number-of .ensures .value, c .enter .ensures .after);
     }

@@ -50,7 +50,7 @@ loop-moving-again c =
     let r = s .ensures in
     record {
       fitting = subst T (sym (s .ok)) tt;
-      finite = r .finite;
+      finite = r .limits;
       within = E.sum-bounded w (c .if-held .left) (s .result) (r .answer) (r .value);
       counted = i .counted;
       total = E.sum-total w (c .if-held .left) (s .result) (r .answer) (r .value) ∙ i .total;
