@@ -5,8 +5,8 @@ use mathlib.Core.Bool.{Bool, true, false, _&&_}
 use Prim.Native.Nat.{ℕ, zero, suc, _*_, _^_, _≤_, _<_}
 use native.Mathlib.Nat.{zero-mul, not-le-of-lt}
 use native.Mathlib.Omega.{arith}
-use lib.Dec.{T, leb, ltb, ltb→lt, leb→le}
-use lib.Ieee.Fits.{and-l, and-r}
+use lib.Dec.{T, leb, ltb, ltb→lt, leb→le, lt→ltb, le→leb}
+use lib.Ieee.Fits.{and-i, and-l, and-r}
 use lib.IntN.{ℤ, pos, negsuc}
 use lib.Signed.{_≤ℤ_}
 use lib.ListN.{length, getD}
@@ -84,6 +84,11 @@ limited-high m h t = leb→le h 2080 (and-l (leb h 2080) (leb (m * 2 ^ h) (2 ^ 2
 
 pub limited-size : (m h : ℕ) → T (limited m h) → m * 2 ^ rank (exponentOf h) ≤ 2 ^ rank (pos 1006)
 limited-size m h t = within m h (leb→le (m * 2 ^ h) (2 ^ 2080) (and-r (leb h 2080) (leb (m * 2 ^ h) (2 ^ 2080)) (and-r (ltb m (2 ^ 53)) (leb h 2080 && leb (m * 2 ^ h) (2 ^ 2080)) t)))
+
+pub limited-in : (m h : ℕ) → m < 2 ^ 53 → h ≤ 2080 → m * 2 ^ h ≤ 2 ^ 2080 → T (limited m h)
+limited-in m h a b c =
+    and-i (ltb m (2 ^ 53)) (leb h 2080 && leb (m * 2 ^ h) (2 ^ 2080)) (lt→ltb m (2 ^ 53) a)
+    (and-i (leb h 2080) (leb (m * 2 ^ h) (2 ^ 2080)) (le→leb h 2080 b) (le→leb (m * 2 ^ h) (2 ^ 2080) c))
 
 -- ---- the summand at an index
 

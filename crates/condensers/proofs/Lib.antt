@@ -7,3 +7,5 @@ pub mod Building
 pub mod Standing
 pub mod Tables
 pub mod Entering
+pub mod Columns
+pub mod ColumnSummands

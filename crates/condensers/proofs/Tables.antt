@@ -1,11 +1,11 @@
 -- Lists of numbers by place: what stands at each, their sums, and what one changed place changes. Assumes nothing.
 use mathlib.Core.Path.{_≡_, refl, sym, ap, ap₂, _∙_, subst}
 use mathlib.Core.List.{List, [], _∷_, map}
-use mathlib.Core.Bool.{Bool, false, _&&_, cond}
+use mathlib.Core.Bool.{Bool, false, cond}
 use Prim.Native.Nat.{ℕ, zero, suc, _+_, _*_, _^_, _≤_, _<_}
 use native.Mathlib.Nat.{add-zero, add-suc, suc-add, not-suc-le-zero, le-of-suc-le-suc, le-trans, le-of-eq, zero-mul}
 use native.Mathlib.Omega.{arith}
-use lib.Dec.{T, ltb, leb, lt→ltb, le→leb, lit≤}
+use lib.Dec.{T, lit≤}
 use lib.IntN.{ℤ, pos, _+ℤ_, natAbs}
 use lib.ListN.{length, getD, set, replicate}
 use lib.Ieee.{Float, nan, binary64, eq, ofBits, toBits}
@@ -17,7 +17,7 @@ use Rattle.numbers.specs.Patterns.{signOf}
 use Rattle.condensers.specs.Fields.{significandOf, heightOf}
 use Rattle.condensers.specs.Handed.{limited}
 use Rattle.condensers.specs.Pairing.{floatUnits, size, empty, stands, standFrom, totalOf, sumOf, pieceLimit, summandOf}
-use Rattle.condensers.proofs.Handed.{summandAt-units}
+use Rattle.condensers.proofs.Handed.{summandAt-units, limited-in}
 use Rattle.condensers.proofs.Patterns.{number-fields, size-fields}
 use Rattle.condensers.proofs.Pairs.{significand-lt}
 use Rattle.condensers.proofs.Standing.{standing-fits, standing-field, empty-stands, empty-value}
@@ -92,11 +92,6 @@ none-bounded m = le-of-eq (sum-none size m size-none ∙ sym (zero-mul pieceLimi
 
 -- ---- the summands handed out
 
-in-limits : (m h z l : ℕ) → m < 2 ^ 53 → h ≤ 2080 → z ≡ m * 2 ^ h → z ≤ l → l ≤ 2 ^ 2080 → T (limited m h)
-in-limits m h z l a b e c d =
-    and-i (ltb m (2 ^ 53)) (leb h 2080 && leb (m * 2 ^ h) (2 ^ 2080)) (lt→ltb m (2 ^ 53) a)
-    (and-i (leb h 2080) (leb (m * 2 ^ h) (2 ^ 2080)) (le→leb h 2080 b) (le→leb (m * 2 ^ h) (2 ^ 2080) (subst (λ (x : ℕ). x ≤ 2 ^ 2080) e (le-trans c d))))
-
 -- what a table of full capacity can hold, as a summand
 full : 67108864 * pieceLimit ≤ 2 ^ 2080
 unfolding pieceLimit
@@ -106,7 +101,7 @@ pub standing-limited : (k : ℕ) (x : Float) → T (stands k x) → size x ≤ 6
 standing-limited k x t l =
     let b = toBits binary64 x in
     let f = standing-field k x t in
-    in-limits (significandOf b) (heightOf b) (size x) (67108864 * pieceLimit) (significand-lt b) (omega arith) (size-fields x (standing-fits k x t) f) l full
+    limited-in (significandOf b) (heightOf b) (significand-lt b) (omega arith) (subst (λ (n : ℕ). n ≤ 2 ^ 2080) (size-fields x (standing-fits k x t) f) (le-trans l full))
 
 summandOf-units : (k : ℕ) (x : Float) → T (stands k x) → size x ≤ 67108864 * pieceLimit → summandUnits (summandOf x) ≡ floatUnits x
 unfolding summandOf

@@ -3,3 +3,4 @@ pub mod Meaning
 pub mod Fields
 pub mod Handed
 pub mod Pairing
+pub mod Columns

@@ -11,7 +11,8 @@ ghost use Rattle.numbers.specs.Units.{floatValue};
 ghost use Rattle.condensers.specs.Fields.{significandOf, heightOf};
 ghost use Rattle.condensers.specs.Handed.{limited};
 ghost use Rattle.condensers.specs.Pairing.{floatUnits, size, placeOf, rangeLimit, summandOf};
-use crate::summands::summand_at;
+use crate::units::rank_of;
+use crate::units::summand_at;
 use numbers::piece::Piece;
 use numbers::piece::Summand;
 
@@ -41,8 +42,7 @@ pub(crate) fn number_of(piece: Piece) -> f64
     if piece.significand == 0 {
         return 0.0;
     }
-    let rank = (piece.exponent + 1074) as u32;
-    let pattern = pattern_of(piece.significand, rank);
+    let pattern = pattern_of(piece.significand, rank_of(piece));
     if piece.negative {
         f64::from_bits(SIGN + pattern)
     } else {

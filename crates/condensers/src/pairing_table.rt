@@ -14,7 +14,7 @@ use crate::binary64::place_of;
 use crate::binary64::sum_of_pair;
 use crate::binary64::summand_of;
 use crate::condenser::Condenser;
-use crate::summands::summand_at;
+use crate::units::summand_at;
 use numbers::piece::Piece;
 use numbers::piece::Summand;
 use numbers::refusal::Reason;

@@ -2,26 +2,19 @@
 use mathlib.Core.Path.{_≡_, refl, sym, ap, ap₂, subst, _∙_}
 use Prim.Native.Nat.{ℕ, _+_, _-_, _*_, _%_, _^_, _<_}
 use native.Mathlib.Omega.{arith}
-use lib.IntN.{ℤ, pos, negsuc, natAbs, _+ℤ_}
-use lib.Signed.{_≤ℤ_}
+use lib.IntN.{pos}
 use lib.Dec.{lit<}
 use lib.Ieee.{binary64, ofBits}
-use mir.Syntax.{w32}
-use mir.Val.{toZ, ofZ}
-use borrow.Author.Differences.{ints}
 use Rattle.std.specs.declared.option.Option.the-variants.{Some}
 use Rattle.numbers.specs.declared.piece.Piece.{Piece}
 use Rattle.numbers.specs.Units.{rank, signed, units, floatValue}
 use Rattle.numbers.specs.Products.{pieceUnits}
-use Rattle.numbers.proofs.Scale.{rank-is, units-zero}
+use Rattle.numbers.proofs.Scale.{units-zero}
 use Rattle.numbers.specs.Patterns.{signOf, fieldOf}
 use Rattle.condensers.specs.Fields.{leading, significandOf, heightOf}
 use Rattle.condensers.proofs.Patterns.{pattern-no-nan, pattern-number, pattern-again}
 use Rattle.condensers.proofs.Building.{plus-sign, minus-sign, signed-field, signed-fraction}
 use Rattle.condensers.proofs.binary64.number_of.Needs as need
-
-code-rank : (e : ℤ) → negsuc 1071 ≤ℤ e → e ≤ℤ pos 916 → natAbs (toZ w32 (ofZ w32 (toZ w32 (ofZ w32 e) +ℤ pos 1074))) ≡ rank e
-code-rank e l h = omega (arith, ints, rank-is e (omega (arith, ints)))
 
 -- the value of a piece whose size is the one of the pattern p
 made : (piece : Piece) (b p R : ℕ) → signOf b ≡ piece .negative → fieldOf b ≡ fieldOf p → b % 2 ^ 52 ≡ p % 2 ^ 52 → fieldOf p < 2047
@@ -53,7 +46,7 @@ returns-then-piece c =
     let t = c .pattern-of-pattern .ensures in
     let f : fieldOf (2 ^ 63 + p) < 2047 = subst (λ (x : ℕ). x < 2047) (sym (signed-field p)) (t .limits .1) in
     record {
-      value = made piece (2 ^ 63 + p) p _ (minus-sign p ∙ sym (c .if-piece .taken)) (signed-field p) (signed-fraction p) (t .limits .1) (t .value) (code-rank (piece .exponent) (piece .low) (piece .high));
+      value = made piece (2 ^ 63 + p) p _ (minus-sign p ∙ sym (c .if-piece .taken)) (signed-field p) (signed-fraction p) (t .limits .1) (t .value) (c .rank-of .ensures .answer);
       limits = subst (λ (x : ℕ). fieldOf x < 2047) (sym (pattern-again (2 ^ 63 + p) (omega arith) f)) f;
     }
 
@@ -63,6 +56,6 @@ returns-else-piece c =
     let p = c .pattern-of-pattern .result in
     let t = c .pattern-of-pattern .ensures in
     record {
-      value = made piece p p _ (plus-sign p (t .limits .0) ∙ sym (c .if-piece .left)) refl refl (t .limits .1) (t .value) (code-rank (piece .exponent) (piece .low) (piece .high));
+      value = made piece p p _ (plus-sign p (t .limits .0) ∙ sym (c .if-piece .left)) refl refl (t .limits .1) (t .value) (c .rank-of .ensures .answer);
       limits = subst (λ (x : ℕ). fieldOf x < 2047) (sym (pattern-again p (omega arith) (t .limits .1))) (t .limits .1);
     }

@@ -9,7 +9,7 @@ use borrow.Author.Differences.{ints}
 use Rattle.numbers.specs.Units.{rank}
 use Rattle.condensers.specs.Handed.{exponentOf}
 use Rattle.condensers.proofs.Handed.{summandAt-is, limited-short, limited-high, limited-size}
-use Rattle.condensers.proofs.summands.summand_at.Needs as need
+use Rattle.condensers.proofs.units.summand_at.Needs as need
 
 pub returns-then-significand-eq0 : need.returns-then-significand-eq0
 returns-then-significand-eq0 c = record {

@@ -1,0 +1,142 @@
+//! The column table: a condenser of 64 signed columns, column j weighing 2^(32 j) units, that takes pieces in parts of 32 bits without carries.
+ghost use mathlib.Core.Path.{_≡_};
+ghost use Prim.Native.Nat.{ℕ, _+_, _*_, _^_, _<_, _≤_};
+ghost use lib.IntN.{pos, _+ℤ_, natAbs};
+ghost use lib.ListN.{length, getD, set};
+ghost use Rattle.numbers.specs.Units.{signed};
+ghost use Rattle.condensers.specs.Meaning.{PutAnswer, PutAfter};
+ghost use Rattle.condensers.specs.Columns.{columnTotal, summandsFrom, emptyColumns, Gains, PutGains};
+use crate::condenser::Condenser;
+use crate::units::rank_of;
+use crate::units::summand_at;
+use numbers::piece::Piece;
+use numbers::piece::Summand;
+use numbers::refusal::Reason;
+use numbers::refusal::Refusal;
+use numbers::refusal::Side;
+
+const COLUMNS: usize = 64;
+
+const CAPACITY: u64 = 67_108_864;
+/// One more than the largest part.
+const PART: u64 = 0x1_0000_0000;
+
+const WIDE_PART: u128 = 0x1_0000_0000;
+
+/// Signed columns of growing weight. Each put adds at most one part to a column, so no column can overflow.
+#[derive(Drop)]
+pub struct ColumnTable {
+    columns: [i64; COLUMNS],
+    count: u64,
+    ghost long: { length columns ≡ 64 },
+    ghost bounded: { (j : ℕ) → natAbs (getD columns j (pos 0)) ≤ count * 4294967295 },
+    ghost few: { count ≤ 67108864 },
+}
+
+impl ColumnTable {
+    /// A table with nothing in it.
+    pub fn new() -> ColumnTable
+        ensures total { λ r. ⌜ columnTotal (r .columns) ≡ pos 0 ⌝ }
+        ensures count { λ r. ⌜ r .count ≡ 0 ⌝ }
+        ensures after { λ r. ⌜ r .columns ≡ emptyColumns ⌝ }
+    {
+        ColumnTable {
+            columns: [0; COLUMNS],
+            count: 0,
+        }
+    }
+
+    /// Adds a part to a column, with a sign.
+    fn add_part(&mut self, column: usize, negative: bool, part: u32)
+        requires inside { ⌜ column < 64 ⌝ }
+        requires within { ⌜ natAbs (getD (now self .columns) column (pos 0)) + 4294967295 ≤ now self .count * 4294967295 ⌝ }
+        ensures after { λ _. ⌜ now (self .exit) .columns ≡ set (now (self .entry) .columns) column (getD (now (self .entry) .columns) column (pos 0) +ℤ signed negative part) ⌝ }
+        ensures count { λ _. ⌜ now (self .exit) .count ≡ now (self .entry) .count ⌝ }
+    {
+        if negative {
+            self.columns[column] -= part as i64;
+        } else {
+            self.columns[column] += part as i64;
+        }
+    }
+
+    /// Adds the parts of ±significand × 2^rank units. They lie in at most three columns, and the third part is nothing where there is no third column.
+    fn add(&mut self, negative: bool, significand: u64, rank: u32)
+        requires short { ⌜ significand ≤ 2 ^ 52 ⌝ }
+        requires inside { ⌜ rank ≤ 1990 ⌝ }
+        requires within { ⌜ ((j : ℕ) → natAbs (getD (now self .columns) j (pos 0)) + 4294967295 ≤ now self .count * 4294967295) ⌝ }
+        ensures kept { λ _. ⌜ Gains negative (significand * 2 ^ rank) (now (self .entry) .columns) (now (self .exit) .columns) ⌝ }
+        ensures count { λ _. ⌜ now (self .exit) .count ≡ now (self .entry) .count ⌝ }
+    {
+        let first = (rank / 32) as usize;
+        let size = (significand as u128) << (rank % 32);
+        self.add_part(first, negative, (size % WIDE_PART) as u32);
+        self.add_part(first + 1, negative, (size / WIDE_PART % WIDE_PART) as u32);
+        let third = (size / WIDE_PART / WIDE_PART) as u32;
+        if third != 0 {
+            self.add_part(first + 2, negative, third);
+        }
+    }
+}
+
+pub impl Condenser for ColumnTable as ColumnCondenser {
+    ghost total = { λ t. columnTotal (t .columns) };
+
+    ghost count = { λ t. t .count };
+
+    ghost capacity = { 67108864 };
+
+    ghost summands = { λ t. summandsFrom 0 (t .columns) };
+
+    fn empty(&mut self)
+        ensures total { λ _. ⌜ columnTotal (now (self .exit) .columns) ≡ pos 0 ⌝ }
+        ensures count { λ _. ⌜ now (self .exit) .count ≡ 0 ⌝ }
+        ensures after { λ _. ⌜ now (self .exit) .columns ≡ emptyColumns ⌝ }
+    {
+        self.columns = [0; COLUMNS];
+        self.count = 0;
+    }
+
+    fn put(&mut self, piece: Piece) -> Result<(), Refusal>
+        ensures answer { λ r. ⌜ PutAnswer 67108864 (now (self .entry) .count) r ⌝ }
+        ensures after { λ r. ⌜ PutAfter (λ t. columnTotal (t .columns)) (λ t. t .count) piece (now (self .entry)) (now (self .exit)) r ⌝ }
+        ensures kept { λ r. ⌜ PutGains piece (now (self .entry) .columns) (now (self .exit) .columns) r ⌝ }
+    {
+        if self.count == CAPACITY {
+            return Err(Refusal {
+                reason: Reason::Full,
+                place: 0,
+                side: Side::Neither,
+            });
+        }
+        self.count += 1;
+        self.add(piece.negative, piece.significand, rank_of(piece));
+        Ok(())
+    }
+
+    fn put_count(&self) -> u64 {
+        self.count
+    }
+
+    fn put_limit(&self) -> u64 {
+        CAPACITY
+    }
+
+    fn summand_count(&self) -> u64 {
+        2 * COLUMNS as u64
+    }
+
+    fn summand(&self, k: u64) -> Summand {
+        if k >= 2 * COLUMNS as u64 {
+            return summand_at(false, 0, 0);
+        }
+        let column = self.columns[(k / 2) as usize];
+        let size = column.unsigned_abs();
+        let rank = 32 * (k / 2) as u32;
+        if k % 2 == 0 {
+            summand_at(column < 0, size % PART, rank)
+        } else {
+            summand_at(column < 0, size / PART, rank + 32)
+        }
+    }
+}
