@@ -1,0 +1,6 @@
+mod Cases
+mod Grid
+mod Patterns
+mod Sizes
+mod Directions
+mod Rules

@@ -1,0 +1,5 @@
+-- The definitions that the contracts of the readings cite.
+pub mod Formats
+pub mod Rounding
+pub mod Rounded
+pub mod Laws
