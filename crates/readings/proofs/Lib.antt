@@ -4,3 +4,4 @@ mod Patterns
 mod Sizes
 mod Directions
 mod Rules
+mod Naturals

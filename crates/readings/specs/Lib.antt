@@ -3,3 +3,4 @@ pub mod Formats
 pub mod Rounding
 pub mod Rounded
 pub mod Laws
+pub mod Limbs
