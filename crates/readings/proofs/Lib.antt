@@ -5,3 +5,4 @@ mod Sizes
 mod Directions
 mod Rules
 mod Naturals
+mod Bounds

@@ -3,15 +3,15 @@ use mathlib.Core.Path.{_≡_, refl, sym, ap, _∙_, subst}
 use mathlib.Core.Logic.{_⊎_, inl, inr, _≢_}
 use mathlib.Core.List.{List, [], _∷_, _++_}
 use Prim.Native.Nat.{ℕ, zero, suc, _+_, _-_, _*_, _/_, _%_, _^_, _≤_, _<_, zero-le}
-use native.Mathlib.Nat.{add-zero, zero-add, zero-mul, mul-zero, mul-comm, mul-assoc, mul-left-comm, add-mul, le-of-suc-le-suc, lt-of-lt-of-le, not-suc-le-zero, zero-div, zero-mod, div-one, mod-one, zero-lt-suc, add-comm, add-suc, le-refl, le-trans, le-of-eq, le-antisymm, add-sub-of-le, mul-add-mod-self-left, eq-zero-or-pos, mul-pos, lt-of-not-le, not-le-of-lt, le-add-left, mul-le-mul-right}
+use native.Mathlib.Nat.{add-zero, zero-add, zero-mul, mul-zero, mul-comm, mul-assoc, mul-left-comm, add-mul, le-of-suc-le-suc, lt-of-lt-of-le, not-suc-le-zero, zero-div, zero-mod, div-one, mod-one, zero-lt-suc, add-comm, add-suc, suc-mul, le-refl, le-trans, le-of-eq, le-antisymm, add-sub-of-le, mul-add-mod-self-left, eq-zero-or-pos, mul-pos, lt-of-not-le, not-le-of-lt, le-add-left, mul-le-mul-right}
 use native.Mathlib.Omega.{arith}
 use native.Mathlib.Numerals.{add-one}
 use lib.Arith.{digits-div, digits-mod, digits-lt}
 use lib.ListN.{length, getD, set, take, drop}
-use lib.Pow.{pow-add, pow-pos, pow-mono, field, shr-shr, mod-pow-add, mod-mod-pow}
+use lib.Pow.{pow-add, pow-pos, pow-mono, field, shl-exact, shr-shr, mod-pow-add, mod-mod-pow}
 use lib.Ieee.{size}
 use lib.Ieee.Digits.{size-lt, size-le, size-reaches}
-use Rattle.std.proofs.shelf.Lists.{take-all}
+use Rattle.std.proofs.shelf.Lists.{take-all, take-set, length-set, getD-set-same}
 use Rattle.readings.specs.Limbs.{natural}
 
 pub weight-more : (i : ℕ) → 2 ^ (64 * suc i) ≡ 2 ^ 64 * 2 ^ (64 * i)
@@ -217,3 +217,51 @@ size-above r x k m R lo hi =
     let top : n < 2 ^ (k + suc m) = subst (λ (a : ℕ). n < a) (mul-comm (2 ^ suc m) (2 ^ k) ∙ sym (pow-add 2 k (suc m))) (subst (λ (a : ℕ). a < 2 ^ suc m * 2 ^ k) (add-comm (x * 2 ^ k) r) (digits-lt hi R)) in
     let bottom : 2 ^ (k + m) ≤ n = le-trans (le-of-eq (pow-add 2 k m ∙ mul-comm (2 ^ k) (2 ^ m))) (le-trans (mul-le-mul-right (2 ^ k) lo) (le-add-left (x * 2 ^ k) r)) in
     le-antisymm (size-le n (k + suc m) top) (le-trans (le-of-eq (add-suc k m)) (size-gt n (k + m) bottom))
+
+-- ---- a number that is added at any bit
+
+-- the two halves of a number of 128 bits, at their weights
+halves : (d w : ℕ) → d % 2 ^ 64 * w + d / 2 ^ 64 * (2 ^ 64 * w) ≡ d * w
+halves d w =
+    let e : d ≡ d / 2 ^ 64 * 2 ^ 64 + d % 2 ^ 64 = omega arith in
+    let e1 : d * w ≡ (d / 2 ^ 64 * 2 ^ 64) * w + d % 2 ^ 64 * w = ap (λ (a : ℕ). a * w) e ∙ add-mul (d / 2 ^ 64 * 2 ^ 64) (d % 2 ^ 64) w in
+    let e2 : (d / 2 ^ 64 * 2 ^ 64) * w ≡ d / 2 ^ 64 * (2 ^ 64 * w) = mul-assoc (d / 2 ^ 64) (2 ^ 64) w in
+    omega arith
+
+-- a carry out of what has room is none
+no-carry : (n₀ n₁ n₂ r₁ r₂ v₁ v₂ v w : ℕ) → n₁ + r₁ * w ≡ n₀ + v₁ → n₂ + r₂ * w ≡ n₁ + v₂ → v₁ + v₂ ≡ v → n₀ + v < w → n₂ ≡ n₀ + v
+no-carry n₀ n₁ n₂ r₁ r₂ v₁ v₂ v w a b e h = go r₁ r₂ a b
+  where
+    go : (r₁ r₂ : ℕ) → n₁ + r₁ * w ≡ n₀ + v₁ → n₂ + r₂ * w ≡ n₁ + v₂ → n₂ ≡ n₀ + v
+    go zero zero a b = let z = zero-mul w in omega arith
+    go (suc p) q a b = let m = suc-mul p w in absurd (omega arith)
+    go zero (suc q) a b = let z = zero-mul w in let m = suc-mul q w in absurd (omega arith)
+
+pub placed : (n₀ n₁ n₂ r₁ r₂ s shift len : ℕ) → s < 2 ^ 64
+    → n₁ + r₁ * 2 ^ (64 * len) ≡ n₀ + s * 2 ^ (shift % 64) % 2 ^ 128 % 2 ^ 64 * 2 ^ (64 * (shift / 64))
+    → n₂ + r₂ * 2 ^ (64 * len) ≡ n₁ + s * 2 ^ (shift % 64) % 2 ^ 128 / 2 ^ 64 * 2 ^ (64 * (shift / 64 + 1))
+    → n₀ + s * 2 ^ shift < 2 ^ (64 * len) → n₂ ≡ n₀ + s * 2 ^ shift
+placed n₀ n₁ n₂ r₁ r₂ s shift len S a b h =
+    let o = shift % 64 in
+    let i = shift / 64 in
+    let w = 2 ^ (64 * i) in
+    let O : 64 + o ≤ 128 = omega arith in
+    let d : s * 2 ^ o % 2 ^ 128 ≡ s * 2 ^ o = shl-exact 64 o 128 S O in
+    let i′ : 2 ^ (64 * (i + 1)) ≡ 2 ^ 64 * w = ap (λ (x : ℕ). 2 ^ (64 * x)) (add-one i) ∙ weight-more i in
+    let e : o + 64 * i ≡ shift = omega arith in
+    let v : s * 2 ^ o * w ≡ s * 2 ^ shift = mul-assoc s (2 ^ o) w ∙ ap (λ (x : ℕ). s * x) (sym (pow-add 2 o (64 * i)) ∙ ap (λ (x : ℕ). 2 ^ x) e) in
+    let b′ : n₂ + r₂ * 2 ^ (64 * len) ≡ n₁ + s * 2 ^ o % 2 ^ 128 / 2 ^ 64 * (2 ^ 64 * w) = b ∙ ap (λ (x : ℕ). n₁ + s * 2 ^ o % 2 ^ 128 / 2 ^ 64 * x) i′ in
+    no-carry n₀ n₁ n₂ r₁ r₂ (s * 2 ^ o % 2 ^ 128 % 2 ^ 64 * w) (s * 2 ^ o % 2 ^ 128 / 2 ^ 64 * (2 ^ 64 * w)) (s * 2 ^ shift) (2 ^ (64 * len)) a b′
+    (halves (s * 2 ^ o % 2 ^ 128) w ∙ ap (λ (x : ℕ). x * w) d ∙ v) h
+
+-- what is written stays below its weight
+pub written-lt : (xs : List ℕ) (i v : ℕ) → i < length xs → v < 2 ^ 64 → natural (take i xs) < 2 ^ (64 * i) → natural (take (i + 1) (set xs i v)) < 2 ^ (64 * (i + 1))
+written-lt xs i v h V low =
+    let ys = set xs i v in
+    let e : natural (take (i + 1) ys) ≡ v * 2 ^ (64 * i) + natural (take i xs) =
+    ap (λ (a : ℕ). natural (take a ys)) (add-one i)
+    ∙ natural-more ys i (subst (λ (a : ℕ). i < a) (sym (length-set xs i v)) h)
+    ∙ ap (λ (a : ℕ). natural (take i ys) + a * 2 ^ (64 * i)) (getD-set-same xs i v 0 h)
+    ∙ ap (λ (a : List ℕ). natural a + v * 2 ^ (64 * i)) (take-set xs i v)
+    ∙ add-comm (natural (take i xs)) (v * 2 ^ (64 * i)) in
+    subst (λ (a : ℕ). a < 2 ^ (64 * (i + 1))) (sym e) (subst (λ (a : ℕ). v * 2 ^ (64 * i) + natural (take i xs) < a) (sym (ap (λ (a : ℕ). 2 ^ (64 * a)) (add-one i) ∙ weight-more i)) (digits-lt V low))

@@ -4,3 +4,4 @@ pub mod Rounding
 pub mod Rounded
 pub mod Laws
 pub mod Limbs
+pub mod Sums

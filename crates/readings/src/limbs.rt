@@ -26,10 +26,23 @@ pub(crate) fn add_at(limbs: &mut [u64], at: usize, part: u64) -> u64
     carry
 }
 
+/// Adds significand × 2^shift, which has room.
+pub(crate) fn add_shifted(limbs: &mut [u64], significand: u64, shift: u32)
+    requires reach { ⌜ shift / 64 < length (now limbs) ⌝ }
+    requires room { ⌜ natural (now limbs) + significand * 2 ^ shift < 2 ^ (64 * length (now limbs)) ⌝ }
+    ensures value { λ _. ⌜ natural (now (limbs .exit)) ≡ natural (now (limbs .entry)) + significand * 2 ^ shift ⌝ }
+{
+    let at = (shift / 64) as usize;
+    let wide = (significand as u128) << (shift % 64);
+    let _ = add_at(limbs, at, (wide % BASE) as u64);
+    let _ = add_at(limbs, at + 1, (wide / BASE) as u64);
+}
+
 /// Takes `other` away. The answer is the borrow out of the last limb.
 pub(crate) fn subtract(limbs: &mut [u64], other: &[u64]) -> u64
     requires { ⌜ length (now limbs) ≡ length (now other) ⌝ }
     ensures value { λ r. ⌜ natural (now (limbs .exit)) + natural (now (other .entry)) ≡ natural (now (limbs .entry)) + r * 2 ^ (64 * length (now (limbs .entry))) ⌝ }
+    ensures limits { λ _. ⌜ natural (now (limbs .exit)) < 2 ^ (64 * length (now (limbs .entry))) ⌝ }
 {
     let mut borrow = 0;
     for i in 0..limbs.len() {
