@@ -4,6 +4,7 @@ ghost use Prim.Native.Nat.{_+_, _<_, _≤_};
 ghost use lib.IntN.{pos};
 ghost use Rattle.numbers.specs.Units.{rank};
 ghost use Rattle.readings.specs.Sums.{accumulated, sumValue, Adds};
+use condensers::condenser::Condenser;
 use crate::limbs::add_shifted;
 use crate::limbs::subtract;
 use crate::sums::Accumulator;
@@ -59,5 +60,21 @@ impl Accumulator {
         let mut size = self.below;
         let _ = subtract(&mut size, &self.above);
         ExactSum { negative: true, size }
+    }
+}
+
+impl ExactSum {
+    /// The exact sum of what a condenser hands out, which is its total.
+    pub fn of<C: Condenser>(condenser: &C) -> ExactSum
+        ensures value { λ r. ⌜ sumValue r ≡ C·Condenser .total (now (condenser .entry)) ⌝ }
+    {
+        let mut sum = Accumulator::new();
+        for k in 0..condenser.summand_count() {
+            let summand = condenser.summand(k);
+            if summand.significand != 0 {
+                let _ = sum.add(summand);
+            }
+        }
+        sum.sum()
     }
 }
