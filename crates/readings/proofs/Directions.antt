@@ -16,7 +16,8 @@ use Rattle.readings.specs.declared.forms.Direction.{Direction}
 use Rattle.readings.specs.declared.forms.Direction.the-variants.{Nearest, TowardZero, Up, Down}
 use Rattle.readings.specs.Formats.{Encodes, lowest, largest}
 use Rattle.readings.specs.Rounding.{LeastAbove, GreatestBelow, distance, NoneNearer, Preferred, TieTaken, Directed, negative, Rounds}
-use Rattle.readings.specs.Rounded.{Mode, cut, raise, near, modeOf, sizePattern, rounded}
+use Rattle.readings.specs.Rounded.{modeOf, sizePattern, rounded}
+use Rattle.readings.specs.declared.rounding.Mode.{Mode}
 use Rattle.readings.proofs.Grid.{magnitude, magnitude-at}
 use Rattle.readings.proofs.Patterns.{gridSize, hid-pos, places, places-lt, place-encodes, Found, found, sign-of}
 use Rattle.readings.proofs.Sizes.{CutTo, RaisedTo, NearTo, TieTo, Taken, Chosen, chosen, gap, grid-zero}
@@ -100,7 +101,7 @@ by-sign false true n m = inr (apart-plus n m)
 by-sign true false n m = inr (apart-minus n m)
 by-sign true true n m = inl (apart-same true n m)
 
-size-of : (s : Bool) (m : ℕ) → natAbs (signed s m) ≡ m
+pub size-of : (s : Bool) (m : ℕ) → natAbs (signed s m) ≡ m
 size-of false m = refl
 size-of true zero = refl
 size-of true (suc m) = refl

@@ -60,12 +60,14 @@ magnitude-at h k q H full few = go (lt-or-ge q h) (eq-or-lt-of-le few)
         ∙ magnitude-low h q l
         ∙ sym (mul-one q)
         ∙ ap (λ (a : ℕ). q * 2 ^ a) (sym z)
+
     doubled : magnitude h (k * h + (h + h)) ≡ (h + h) * 2 ^ k
     doubled =
         ap (λ (a : ℕ). magnitude h a) (regroup h k h ∙ ap (λ (a : ℕ). suc k * h + a) (sym (add-zero h)) ∙ regroup h (suc k) 0)
         ∙ magnitude-field h (suc k) 0 H
         ∙ ap (λ (a : ℕ). (h + 0) * a) (pow-succ' 2 k)
         ∙ mul-left-comm (h + 0) 2 (2 ^ k) ∙ sym (mul-assoc 2 (h + 0) (2 ^ k)) ∙ ap (λ (a : ℕ). a * 2 ^ k) (omega arith)
+
     go : (q < h) ⊎ (h ≤ q) → (q ≡ 2 * h) ⊎ (q < 2 * h) → magnitude h (k * h + q) ≡ q * 2 ^ k
     go (inl l) o = elim full [ inl z ↦ small l z | inr g ↦ absurd (lt-irrefl h (lt-of-le-of-lt g l)) ]
     go (inr g) (inl e) = let e2 : q ≡ h + h = omega arith in rw e2 doubled

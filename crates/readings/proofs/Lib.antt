@@ -6,3 +6,6 @@ mod Directions
 mod Rules
 mod Naturals
 mod Bounds
+mod Remainders
+mod Kept
+mod Widths

@@ -131,14 +131,17 @@ far o p r h =
   where
     w : ℕ
     w = 2 ^ (64 + o)
+
     e : 2 ^ 64 ≡ 2 ^ o * 2 ^ (64 - o)
     e = ap (λ (a : ℕ). 2 ^ a) (sym (add-sub-of-le h)) ∙ pow-add 2 o (64 - o)
+
     split : 2 ^ 64 * (2 ^ 64 * r) ≡ 2 ^ (64 + o) * (2 ^ (64 - o) * r)
     split =
         ap (λ (a : ℕ). 2 ^ 64 * (a * r)) e
         ∙ ap (λ (a : ℕ). 2 ^ 64 * a) (mul-assoc (2 ^ o) (2 ^ (64 - o)) r)
         ∙ sym (mul-assoc (2 ^ 64) (2 ^ o) (2 ^ (64 - o) * r))
         ∙ ap (λ (a : ℕ). a * (2 ^ (64 - o) * r)) (sym (pow-add 2 64 o))
+
     same : (p + 2 ^ 64 * (2 ^ 64 * r)) % 2 ^ (64 + o) ≡ p % 2 ^ (64 + o)
     same =
         ap (λ (a : ℕ). a % 2 ^ (64 + o)) (ap (λ (a : ℕ). p + a) split ∙ add-comm p (2 ^ (64 + o) * (2 ^ (64 - o) * r)))
@@ -188,13 +191,16 @@ shows xs cut i h l k g z = go (eq-zero-or-pos (natural xs % 2 ^ cut))
   where
     n : ℕ
     n = natural xs
+
     room : cut - 64 * suc i + 64 * suc i ≡ cut
     room = omega arith
+
     some : natural (take (suc i) xs) ≡ 0 → ⊥
     some e = let m = natural-more xs i l in let p = mul-pos (positive (getD xs i 0) g) (pow-pos (64 * i)) in omega arith
       where
         positive : (a : ℕ) → a ≢ 0 → 0 < a
         positive a g = omega arith
+
     go : (natural xs % 2 ^ cut ≡ 0) ⊎ (0 < natural xs % 2 ^ cut) → 0 < natural xs % 2 ^ cut
     go (inr p) = p
     go (inl e) = absurd (some

@@ -113,7 +113,7 @@ pub sign-of : (f : Format) (s : Bool) (p : ℕ) → p < top f → leb (top f) (c
 sign-of f true p h = is-true (leb (top f) (top f + p)) (le→leb (top f) (top f + p) (le-add-right (top f) p))
 sign-of f false p h = is-false (leb (top f) (0 + p)) (lt→nleb (top f) (0 + p) (subst (λ (a : ℕ). a < top f) (sym (zero-add p)) h))
 
-mod-of : (f : Format) (s : Bool) (p : ℕ) → p < top f → (cond s (top f) 0 + p) % top f ≡ p
+pub mod-of : (f : Format) (s : Bool) (p : ℕ) → p < top f → (cond s (top f) 0 + p) % top f ≡ p
 mod-of f true p h = add-mod-left (top f) p ∙ mod-eq-of-lt h
 mod-of f false p h = ap (λ (a : ℕ). a % top f) (zero-add p) ∙ mod-eq-of-lt h
 
@@ -175,8 +175,14 @@ found f b v e =
     go c at (lt-or-ge (c .place) (places f))
   where
     go : (c : Split f b) → patternValue f (cond (c .sign) (top f) 0 + c .place) ≡ Some v → (c .place < places f) ⊎ (places f ≤ c .place) → Found f b v
-    go c at (inl l) = record { sign = c .sign; place = c .place; is = c .is; test = c .test; finite = l;
-        value = some-same v (signed (c .sign) (gridSize f (c .place))) (sym at ∙ place-value f (c .sign) (c .place) l) }
+    go c at (inl l) = record {
+      sign = c .sign;
+      place = c .place;
+      is = c .is;
+      test = c .test;
+      finite = l;
+      value = some-same v (signed (c .sign) (gridSize f (c .place))) (sym at ∙ place-value f (c .sign) (c .place) l);
+    }
     go c at (inr g) =
         let x = c .place / hid f in
         let lo : ones f ≤ x = le-div-iff-mul-le (hid-pos f) .1 g in

@@ -42,9 +42,9 @@ place-one : (f : Format) (p c : ℕ) → gridSize f p ≡ gridSize f c → p ≡
 place-one f p c e = elim (lt-or-ge p c) [
   | inl l ↦ absurd (lt-irrefl (gridSize f p) (subst (λ (a : ℕ). gridSize f p < a) (sym e) (grid-lt f p c l)))
   | inr g ↦ elim (lt-or-ge c p) [
-      | inl l ↦ absurd (lt-irrefl (gridSize f c) (subst (λ (a : ℕ). gridSize f c < a) e (grid-lt f c p l)))
-      | inr k ↦ le-antisymm k g
-    ]
+    | inl l ↦ absurd (lt-irrefl (gridSize f c) (subst (λ (a : ℕ). gridSize f c < a) e (grid-lt f c p l)))
+    | inr k ↦ le-antisymm k g
+  ]
 ]
 
 pub one-pattern : (f : Format) (b c : ℕ) (v w : ℤ) → v ≡ w → leb (top f) b ≡ leb (top f) c → Encodes f b v → Encodes f c w → b ≡ c
@@ -197,5 +197,5 @@ rounding-laws = record {
   up = up-law;
   down = down-law;
   toward-zero = toward-zero-law;
-  nearest = nearest-law
+  nearest = nearest-law;
 }

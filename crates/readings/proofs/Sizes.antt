@@ -9,7 +9,11 @@ use lib.Ieee.{Format, prec, hid, ones, size}
 use lib.Ieee.Digits.{size-lt, size-reaches}
 use lib.Ieee.Fits.{kept-lt, two}
 use Rattle.readings.specs.Formats.{lowest, largest}
-use Rattle.readings.specs.Rounded.{Mode, cut, raise, near, dropped, tieCarry, carryOf, carry, sizePattern}
+use Rattle.readings.specs.Rounded.{dropped, tieCarry, byHalf, remainderOf, carry, sizePattern}
+use Rattle.readings.specs.declared.rounding.Mode.{Mode}
+use Rattle.readings.specs.declared.rounding.Mode.the-variants.{Cut, Raise, Near}
+use Rattle.readings.specs.declared.rounding.Remainder.{Remainder}
+use Rattle.readings.specs.declared.rounding.Remainder.the-variants.{Nothing, BelowHalf, Half, AboveHalf}
 use Rattle.readings.proofs.Cases.{lt-or-ge}
 use Rattle.readings.proofs.Grid.{magnitude, magnitude-at, magnitude-lt, magnitude-le, magnitude-low}
 use Rattle.readings.proofs.Patterns.{gridSize, hid-pos, places}
@@ -76,7 +80,7 @@ bracket f n =
     record {
       lower = ap (λ (a : ℕ). a + n % u) at ∙ div-add-mod' n u;
       upper = ap (λ (a : ℕ). gridSize f a) (sym (add-suc (k * hid f) q)) ∙ in-units f k (suc q) full′ few ∙ suc-mul q u ∙ ap (λ (a : ℕ). a + u) (sym at);
-      left = mod-lt n (pow-pos (lowest f + k))
+      left = mod-lt n (pow-pos (lowest f + k));
     }
 
 -- ---- the neighbours
@@ -128,9 +132,9 @@ tie-upper f n p r u h b c e = elim (sides f p c) [ inl g ↦ omega arith | inr g
 -- ---- the place that a mode takes
 
 abbrev pub Taken : Format → Mode → ℕ → ℕ → Type 0
-Taken f cut n a = CutTo f n a
-Taken f raise n a = RaisedTo f n a
-Taken f near n a = NearTo f n a × TieTo f n a
+Taken f Cut n a = CutTo f n a
+Taken f Raise n a = RaisedTo f n a
+Taken f Near n a = NearTo f n a × TieTo f n a
 
 -- a place is taken, and it is within the finite ones where the size is not above the largest number
 pub record Chosen (f : Format) (m : Mode) (n p : ℕ) : Type 0 where
@@ -153,25 +157,46 @@ at-zero k q c e = omega arith
 at-one : (k q c : ℕ) → c ≡ 1 → k + (q + c) ≡ suc (k + q)
 at-one k q c e = omega arith
 
-pub chosen-by : (f : Format) (m : Mode) (n k q r u : ℕ) → Bracket f n (k + q) r u → Chosen f m n (k + (q + carry m q r u))
-chosen-by f cut n k q r u b = rw (at-zero k q 0 refl) record { taken = cut-to f n (k + q) r u b; finite = lower-finite f n (k + q) r u b }
-chosen-by f raise n k q zero u b = rw (at-zero k q 0 refl) record { taken = raised-exact f n (k + q) u b; finite = lower-finite f n (k + q) 0 u b }
-chosen-by f raise n k q (suc r) u b = rw (at-one k q 1 refl) record { taken = raised-to f n (k + q) (suc r) u (zero-lt-suc r) b; finite = upper-finite f n (k + q) (suc r) u (zero-lt-suc r) b }
-chosen-by f near n k q r u b = go (compare (2 * r) u) refl
+-- what a remainder says of r and u
+abbrev pub Says : Remainder → ℕ → ℕ → Type 0
+Says Nothing r u = r ≡ 0
+Says BelowHalf r u = (0 < r) × (2 * r < u)
+Says Half r u = (0 < r) × (2 * r ≡ u)
+Says AboveHalf r u = (0 < r) × (u < 2 * r)
+
+pub says : (r u : ℕ) → Says (remainderOf r u) r u
+says zero u = refl
+says (suc r) u = go (compare (2 * suc r) u) refl
   where
-    go : (o : Ordering) → compare (2 * r) u ≡ o → Chosen f near n (k + (q + carryOf q o))
-    go Ordering·lt e =
-        let h : 2 * r < u = compare-lt (2 * r) u e in
-        rw (at-zero k q 0 refl) record { taken = (near-lower f n (k + q) r u (le-of-lt h) b, tie-lower f n (k + q) r u h b); finite = lower-finite f n (k + q) r u b }
-    go Ordering·eq e =
-        let h : u ≤ 2 * r = le-of-eq (sym (compare-eq (2 * r) u e)) in
-        let R : 0 < r = omega arith in
-        rw (at-one k q (tieCarry q) (tie-one q)) record { taken = (near-upper f n (k + q) r u h b, tie-upper f n (k + q) r u h b); finite = upper-finite f n (k + q) r u R b }
-    go Ordering·gt e =
-        let h : u ≤ 2 * r = le-of-lt (compare-gt (2 * r) u e) in
-        let R : 0 < r = omega arith in
-        rw (at-one k q 1 refl) record { taken = (near-upper f n (k + q) r u h b, tie-upper f n (k + q) r u h b); finite = upper-finite f n (k + q) r u R b }
+    go : (o : Ordering) → compare (2 * suc r) u ≡ o → Says (byHalf o) (suc r) u
+    go Ordering·lt e = (zero-lt-suc r, compare-lt (2 * suc r) u e)
+    go Ordering·eq e = (zero-lt-suc r, compare-eq (2 * suc r) u e)
+    go Ordering·gt e = (zero-lt-suc r, compare-gt (2 * suc r) u e)
+
+-- the place at or below n, or the next one
+stay : (f : Format) (m : Mode) (n k q r u : ℕ) → Bracket f n (k + q) r u → Taken f m n (gridSize f (k + q)) → Chosen f m n (k + (q + 0))
+stay f m n k q r u b t = rw (at-zero k q 0 refl) record { taken = t; finite = lower-finite f n (k + q) r u b }
+
+step : (f : Format) (m : Mode) (n k q r u c : ℕ) → c ≡ 1 → 0 < r → Bracket f n (k + q) r u → Taken f m n (gridSize f (suc (k + q))) → Chosen f m n (k + (q + c))
+step f m n k q r u c e R b t = rw (at-one k q c e) record { taken = t; finite = upper-finite f n (k + q) r u R b }
+
+above : (f : Format) (n p r u : ℕ) → u ≤ 2 * r → Bracket f n p r u → Taken f Near n (gridSize f (suc p))
+above f n p r u h b = (near-upper f n p r u h b, tie-upper f n p r u h b)
+
+below : (f : Format) (n p r u : ℕ) → 2 * r < u → Bracket f n p r u → Taken f Near n (gridSize f p)
+below f n p r u h b = (near-lower f n p r u (le-of-lt h) b, tie-lower f n p r u h b)
+
+pub chosen-by : (f : Format) (m : Mode) (n k q r u : ℕ) (w : Remainder) → Says w r u → Bracket f n (k + q) r u → Chosen f m n (k + (q + carry m q w))
+chosen-by f Cut n k q r u w h b = stay f Cut n k q r u b (cut-to f n (k + q) r u b)
+chosen-by f Raise n k q r u Nothing h b = stay f Raise n k q r u b (raised-exact f n (k + q) u (subst (λ (a : ℕ). Bracket f n (k + q) a u) h b))
+chosen-by f Raise n k q r u BelowHalf h b = step f Raise n k q r u 1 refl (h .0) b (raised-to f n (k + q) r u (h .0) b)
+chosen-by f Raise n k q r u Half h b = step f Raise n k q r u 1 refl (h .0) b (raised-to f n (k + q) r u (h .0) b)
+chosen-by f Raise n k q r u AboveHalf h b = step f Raise n k q r u 1 refl (h .0) b (raised-to f n (k + q) r u (h .0) b)
+chosen-by f Near n k q r u Nothing h b = stay f Near n k q r u b (below f n (k + q) r u (let l = b .left in omega arith) b)
+chosen-by f Near n k q r u BelowHalf h b = stay f Near n k q r u b (below f n (k + q) r u (h .1) b)
+chosen-by f Near n k q r u Half h b = step f Near n k q r u (tieCarry q) (tie-one q) (h .0) b (above f n (k + q) r u (le-of-eq (sym (h .1))) b)
+chosen-by f Near n k q r u AboveHalf h b = step f Near n k q r u 1 refl (h .0) b (above f n (k + q) r u (le-of-lt (h .1)) b)
 
 pub chosen : (f : Format) (m : Mode) (n : ℕ) → Chosen f m n (sizePattern f m n)
 unfolding sizePattern
-chosen f m n = let u = 2 ^ (lowest f + dropped f n) in chosen-by f m n (dropped f n * hid f) (n / u) (n % u) u (bracket f n)
+chosen f m n = let u = 2 ^ (lowest f + dropped f n) in chosen-by f m n (dropped f n * hid f) (n / u) (n % u) u (remainderOf (n % u) u) (says (n % u) u) (bracket f n)

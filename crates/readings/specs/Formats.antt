@@ -6,6 +6,12 @@ use lib.Ieee.{Format, binary32, binary64, prec, low, top, ones, hid, ofBits}
 use Rattle.std.specs.declared.option.Option.{Option}
 use Rattle.std.specs.declared.option.Option.the-variants.{Some}
 use Rattle.numbers.specs.Units.{floatValue}
+use Rattle.readings.specs.declared.forms.Width.{Width}
+use Rattle.readings.specs.declared.forms.Width.the-variants.{Long, Short}
+
+abbrev pub formatOf : Width → Format
+formatOf Long = binary64
+formatOf Short = binary32
 
 -- the value of a pattern, or none where it is an infinity's or a NaN's
 abbrev pub patternValue : Format → ℕ → Option ℤ

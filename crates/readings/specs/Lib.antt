@@ -5,3 +5,4 @@ pub mod Rounded
 pub mod Laws
 pub mod Limbs
 pub mod Sums
+pub mod Readings

@@ -4,11 +4,11 @@ ghost use Prim.Native.Nat.{_+_, _<_, _≤_};
 ghost use lib.IntN.{pos};
 ghost use Rattle.numbers.specs.Units.{rank};
 ghost use Rattle.readings.specs.Sums.{accumulated, sumValue, Adds};
-use condensers::condenser::Condenser;
 use crate::limbs::add_shifted;
 use crate::limbs::subtract;
 use crate::sums::Accumulator;
 use crate::sums::ExactSum;
+use condensers::condenser::Condenser;
 use numbers::piece::Summand;
 
 /// How many places 2^exponent lies above the unit.
@@ -55,11 +55,17 @@ impl Accumulator {
     {
         let mut size = self.above;
         if subtract(&mut size, &self.below) == 0 {
-            return ExactSum { negative: false, size };
+            return ExactSum {
+                negative: false,
+                size,
+            };
         }
         let mut size = self.below;
         let _ = subtract(&mut size, &self.above);
-        ExactSum { negative: true, size }
+        ExactSum {
+            negative: true,
+            size,
+        }
     }
 }
 

@@ -1,4 +1,7 @@
 //! How a total is read: the direction of the rounding and the width of the pattern.
+ghost use mathlib.Core.Path.{_≡_};
+ghost use lib.Ieee.{prec, top};
+ghost use Rattle.readings.specs.Formats.{formatOf, lowest};
 
 /// Where a total goes that is no number of the format.
 #[derive(Clone, Copy, PartialEq, Eq, Debug)]
@@ -24,4 +27,36 @@ pub enum Width {
 pub struct Form {
     pub direction: Direction,
     pub width: Width,
+}
+
+impl Width {
+    /// How many binary digits a number has, the leading one counted.
+    pub fn precision(self) -> u32
+        ensures answer { λ r. ⌜ r ≡ prec (formatOf self) ⌝ }
+    {
+        match self {
+            Width::Long => 53,
+            Width::Short => 24,
+        }
+    }
+
+    /// The power of two of the smallest positive number, in units of 2^-1074.
+    pub fn lowest(self) -> u32
+        ensures answer { λ r. ⌜ r ≡ lowest (formatOf self) ⌝ }
+    {
+        match self {
+            Width::Long => 0,
+            Width::Short => 925,
+        }
+    }
+
+    /// The sign bit of a pattern.
+    pub fn sign_bit(self) -> u64
+        ensures answer { λ r. ⌜ r ≡ top (formatOf self) ⌝ }
+    {
+        match self {
+            Width::Long => 0x8000_0000_0000_0000,
+            Width::Short => 0x8000_0000,
+        }
+    }
 }

@@ -5,5 +5,4 @@ ghost use Rattle.readings.specs.Laws.{RoundingLaws};
 /// and each direction is what its name says. The call does nothing.
 pub fn rounding_laws()
     ensures law { λ _. ⌜ RoundingLaws ⌝ }
-{
-}
+{}

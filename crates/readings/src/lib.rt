@@ -3,4 +3,6 @@ pub mod accumulate;
 pub mod forms;
 pub mod laws;
 mod limbs;
+pub mod reading;
+mod rounding;
 pub mod sums;

@@ -67,6 +67,8 @@ returns c =
     let z : natural (take (cut / 64) xs) ≡ 0 = all-zero xs (c .loop-i .i) (cut / 64) (omega arith) (omega arith) (c .loop-i .inv) in
     let d : c .limb .result % (1 * 2 ^ o % 2 ^ 64) ≡ getD xs (cut / 64) 0 % 2 ^ o =
     ap (λ (a : ℕ). c .limb .result % a) (one-shl o 64 O) ∙ ap (λ (a : ℕ). a % 2 ^ o) (c .limb .ensures .answer) in
-    record { answer =
-        ap (λ (a : ℕ). not (eqb a 0)) d
-        ∙ decides (natural xs % 2 ^ cut) (getD xs (cut / 64) 0 % 2 ^ o) (2 ^ (64 * (cut / 64))) (natural (take (cut / 64) xs)) (below-is xs cut (λ i. c .typed .limbs i .fits)) z (pow-pos (64 * (cut / 64))) }
+    record {
+      answer =
+          ap (λ (a : ℕ). not (eqb a 0)) d
+          ∙ decides (natural xs % 2 ^ cut) (getD xs (cut / 64) 0 % 2 ^ o) (2 ^ (64 * (cut / 64))) (natural (take (cut / 64) xs)) (below-is xs cut (λ i. c .typed .limbs i .fits)) z (pow-pos (64 * (cut / 64)));
+    }

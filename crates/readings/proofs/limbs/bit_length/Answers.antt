@@ -17,7 +17,7 @@ use Rattle.readings.proofs.limbs.bit_length.Needs.{then-limbs-i-ne0, else-limb
 
 same : (xs : List ℕ) (i b : ℕ) → i < length xs → getD xs i 0 ≡ 0 → b ≡ size (natural (take i xs)) → b ≡ size (natural (take (i + 1) xs))
 same xs i b h z e =
-    e ∙ ap size (sym (add-zero (natural (take i xs)) ) ∙ ap (λ (a : ℕ). natural (take i xs) + a) (sym (ap (λ (a : ℕ). a * 2 ^ (64 * i)) z ∙ zero-mul (2 ^ (64 * i)))) ∙ sym (natural-more xs i h))
+    e ∙ ap size (sym (add-zero (natural (take i xs))) ∙ ap (λ (a : ℕ). natural (take i xs) + a) (sym (ap (λ (a : ℕ). a * 2 ^ (64 * i)) z ∙ zero-mul (2 ^ (64 * i)))) ∙ sym (natural-more xs i h))
     ∙ ap (λ (a : ℕ). size (natural (take a xs))) (sym (add-one i))
 
 more : (xs : List ℕ) (i : ℕ) → Limbs xs → i < length xs → getD xs i 0 ≢ 0 → 64 * i + (64 - leadingZeros 64 (getD xs i 0)) ≡ size (natural (take (i + 1) xs))

@@ -8,7 +8,9 @@ use Rattle.readings.proofs.limbs.bits_from.Needs as need
 pub returns : need.returns
 returns c =
     let o = c .args .cut % 64 in
-    record { answer =
-        ap (λ (a : ℕ). (a * 2 ^ 64 + c .limb-2 .result) / 2 ^ o % 2 ^ 64) (c .limb .ensures .answer)
-        ∙ ap (λ (a : ℕ). (getD (c .args .limbs .now) (c .args .cut / 64 + 1) 0 * 2 ^ 64 + a) / 2 ^ o % 2 ^ 64) (c .limb-2 .ensures .answer)
-        ∙ read-bits (c .args .limbs .now) (c .args .cut) (λ i. c .typed .limbs i .fits) }
+    record {
+      answer =
+          ap (λ (a : ℕ). (a * 2 ^ 64 + c .limb-2 .result) / 2 ^ o % 2 ^ 64) (c .limb .ensures .answer)
+          ∙ ap (λ (a : ℕ). (getD (c .args .limbs .now) (c .args .cut / 64 + 1) 0 * 2 ^ 64 + a) / 2 ^ o % 2 ^ 64) (c .limb-2 .ensures .answer)
+          ∙ read-bits (c .args .limbs .now) (c .args .cut) (λ i. c .typed .limbs i .fits);
+    }

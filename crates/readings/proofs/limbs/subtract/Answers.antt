@@ -23,8 +23,10 @@ loop-i-again c =
 pub returns : need.returns
 returns c =
     let e : c .loop-i .i ≡ length (c .args .limbs .now) = le-antisymm (c .loop-i .kept .i-end) (c .loop-i-test .left) in
-    record { value =
-        ap (λ (a : List ℕ). natural (c .loop-i .limbs) + natural a) (sym (take-all (c .loop-i .i) (c .args .other .now) (omega arith)))
-        ∙ c .loop-i .inv .0
-        ∙ ap (λ (a : ℕ). natural (c .args .limbs .now) + c .loop-i .borrow * 2 ^ (64 * a)) e;
-      limits = subst (λ (a : ℕ). natural (c .loop-i .limbs) < 2 ^ (64 * a)) e (subst (λ (a : List ℕ). natural a < 2 ^ (64 * c .loop-i .i)) (take-all (c .loop-i .i) (c .loop-i .limbs) (omega arith)) (c .loop-i .inv .2)) }
+    record {
+      value =
+          ap (λ (a : List ℕ). natural (c .loop-i .limbs) + natural a) (sym (take-all (c .loop-i .i) (c .args .other .now) (omega arith)))
+          ∙ c .loop-i .inv .0
+          ∙ ap (λ (a : ℕ). natural (c .args .limbs .now) + c .loop-i .borrow * 2 ^ (64 * a)) e;
+      limits = subst (λ (a : ℕ). natural (c .loop-i .limbs) < 2 ^ (64 * a)) e (subst (λ (a : List ℕ). natural a < 2 ^ (64 * c .loop-i .i)) (take-all (c .loop-i .i) (c .loop-i .limbs) (omega arith)) (c .loop-i .inv .2));
+    }

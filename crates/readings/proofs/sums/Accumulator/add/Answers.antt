@@ -21,7 +21,7 @@ add-shifted-requires c κs =
     record {
       reach = omega arith;
       room = room (natural (a .below)) (a .taken) (s .significand * 2 ^ c .unit-places-shift .result) (length (a .below)) (omega arith) (c .if-self-ge65536 .left) (a .«below_bounded»)
-          (size (s .significand) (c .unit-places-shift .result) (rank (s .exponent)) (c .unit-places-shift .ensures .answer) (s .bounded))
+          (size (s .significand) (c .unit-places-shift .result) (rank (s .exponent)) (c .unit-places-shift .ensures .answer) (s .bounded));
     }
 
 pub add-shifted-requires-else-summand : need.add-shifted-requires-else-summand
@@ -31,7 +31,7 @@ add-shifted-requires-else-summand c κs =
     record {
       reach = omega arith;
       room = room (natural (a .above)) (a .taken) (s .significand * 2 ^ c .unit-places-shift .result) (length (a .above)) (omega arith) (c .if-self-ge65536 .left) (a .«above_bounded»)
-          (size (s .significand) (c .unit-places-shift .result) (rank (s .exponent)) (c .unit-places-shift .ensures .answer) (s .bounded))
+          (size (s .significand) (c .unit-places-shift .result) (rank (s .exponent)) (c .unit-places-shift .ensures .answer) (s .bounded));
     }
 
 value : (b : Bool) (t : Bool) (s places : ℕ) (e : ℤ) → t ≡ b → places ≡ rank e → units t s e ≡ signed b (s * 2 ^ places)
@@ -43,15 +43,25 @@ returns-then-summand c =
     let a = c .args .self .now in
     let s = c .args .summand in
     let v = s .significand * 2 ^ c .unit-places-shift .result in
-    record { after = (c .if-self-ge65536 .left, refl,
+    record {
+      after = (
+        c .if-self-ge65536 .left,
+        refl,
         below-more (natural (a .above)) (natural (a .below)) (natural (c .add-shifted .last .limbs)) v (c .add-shifted .ensures .value)
-        ∙ ap (λ (x : ℤ). (pos (natural (a .above)) -ℤ pos (natural (a .below))) +ℤ x) (sym (value true (s .negative) (s .significand) (c .unit-places-shift .result) (s .exponent) (c .if-summand .taken) (c .unit-places-shift .ensures .answer)))) }
+            ∙ ap (λ (x : ℤ). (pos (natural (a .above)) -ℤ pos (natural (a .below))) +ℤ x) (sym (value true (s .negative) (s .significand) (c .unit-places-shift .result) (s .exponent) (c .if-summand .taken) (c .unit-places-shift .ensures .answer))),
+      );
+    }
 
 pub returns-else-summand : need.returns-else-summand
 returns-else-summand c =
     let a = c .args .self .now in
     let s = c .args .summand in
     let v = s .significand * 2 ^ c .unit-places-shift .result in
-    record { after = (c .if-self-ge65536 .left, refl,
+    record {
+      after = (
+        c .if-self-ge65536 .left,
+        refl,
         above-more (natural (a .above)) (natural (c .add-shifted-else-summand .last .limbs)) (natural (a .below)) v (c .add-shifted-else-summand .ensures .value)
-        ∙ ap (λ (x : ℤ). (pos (natural (a .above)) -ℤ pos (natural (a .below))) +ℤ x) (sym (value false (s .negative) (s .significand) (c .unit-places-shift .result) (s .exponent) (c .if-summand .left) (c .unit-places-shift .ensures .answer)))) }
+            ∙ ap (λ (x : ℤ). (pos (natural (a .above)) -ℤ pos (natural (a .below))) +ℤ x) (sym (value false (s .negative) (s .significand) (c .unit-places-shift .result) (s .exponent) (c .if-summand .left) (c .unit-places-shift .ensures .answer))),
+      );
+    }

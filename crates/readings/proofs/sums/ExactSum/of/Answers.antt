@@ -41,9 +41,10 @@ taken false a b s k rest rest′ t h few l e inv = let u = h .0 in absurd (omega
 
 pub loop-k-holds : need.loop-k-holds
 loop-k-holds g c =
-    let x = c .args .condenser .now in
-    (ap (λ (a : ℤ). a +ℤ sumUnits (g .C·Condenser .summands x)) (c .new-sum .ensures .value) ∙ +ℤ-idl (sumUnits (g .C·Condenser .summands x)) ∙ g .C·Condenser·met .«summands_exact» x,
-    omega (arith, c .new-sum .ensures .count))
+    let x = c .args .condenser .now in (
+      ap (λ (a : ℤ). a +ℤ sumUnits (g .C·Condenser .summands x)) (c .new-sum .ensures .value) ∙ +ℤ-idl (sumUnits (g .C·Condenser .summands x)) ∙ g .C·Condenser·met .«summands_exact» x,
+      omega (arith, c .new-sum .ensures .count),
+    )
 
 -- a zero one, passed over
 passed : (a b : Accumulator) (s : Summand) (k : ℕ) (rest rest′ t : ℤ) → b ≡ a → s .significand ≡ 0 → a .taken ≤ k → rest ≡ summandUnits s +ℤ rest′ → accumulated a +ℤ rest ≡ t
