@@ -17,7 +17,7 @@ use lib.Ieee.Bits.{is-true, is-false, cond-no}
 use Rattle.std.specs.declared.option.Option.{Option}
 use Rattle.std.specs.declared.option.Option.the-variants.{Some, None}
 use Rattle.numbers.specs.Units.{rank, signed, units, floatValue}
-use Rattle.readings.specs.Formats.{patternValue, Encodes, lowest}
+use Rattle.readings.specs.Formats.{encodedValue, Encodes, lowest}
 use Rattle.readings.proofs.Cases.{lt-or-ge}
 use Rattle.readings.proofs.Grid.{magnitude, magnitudeOf}
 
@@ -140,7 +140,7 @@ places-lt f p h = lt-of-lt-of-le h (le-trans (mul-le-mul-right (hid f) (le-self 
     le-self : (a : ℕ) → a ≤ suc a
     le-self a = omega arith
 
-pub place-value : (f : Format) (s : Bool) (p : ℕ) → p < places f → patternValue f (cond s (top f) 0 + p) ≡ Some (signed s (gridSize f p))
+pub place-value : (f : Format) (s : Bool) (p : ℕ) → p < places f → encodedValue f (cond s (top f) 0 + p) ≡ Some (signed s (gridSize f p))
 unfolding gridSize magnitude
 place-value f s p h =
     ap floatValue (read-is f s p (places-lt f p h))
@@ -171,10 +171,10 @@ none-some v e = let z : _≡_ {A = ℕ} 0 1 = cc in omega arith
 pub found : (f : Format) (b : ℕ) (v : ℤ) → Encodes f b v → Found f b v
 found f b v e =
     let c = split f b (e .width) in
-    let at : patternValue f (cond (c .sign) (top f) 0 + c .place) ≡ Some v = subst (λ (a : ℕ). patternValue f a ≡ Some v) (c .is) (e .value) in
+    let at : encodedValue f (cond (c .sign) (top f) 0 + c .place) ≡ Some v = subst (λ (a : ℕ). encodedValue f a ≡ Some v) (c .is) (e .value) in
     go c at (lt-or-ge (c .place) (places f))
   where
-    go : (c : Split f b) → patternValue f (cond (c .sign) (top f) 0 + c .place) ≡ Some v → (c .place < places f) ⊎ (places f ≤ c .place) → Found f b v
+    go : (c : Split f b) → encodedValue f (cond (c .sign) (top f) 0 + c .place) ≡ Some v → (c .place < places f) ⊎ (places f ≤ c .place) → Found f b v
     go c at (inl l) = record {
       sign = c .sign;
       place = c .place;

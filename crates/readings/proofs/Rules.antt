@@ -17,7 +17,7 @@ use Rattle.std.specs.declared.option.Option.the-variants.{Some}
 use Rattle.numbers.specs.Units.{signed}
 use Rattle.readings.specs.declared.forms.Direction.{Direction}
 use Rattle.readings.specs.declared.forms.Direction.the-variants.{Nearest, TowardZero, Up, Down}
-use Rattle.readings.specs.Formats.{Encodes, patternValue, lowest}
+use Rattle.readings.specs.Formats.{Encodes, encodedValue, lowest}
 use Rattle.readings.specs.Rounding.{LeastAbove, GreatestBelow, distance, NoneNearer, Preferred, TieTaken, Directed, negative, Rounds}
 use Rattle.readings.specs.Laws.{Subnormal-value, Normal-value, At-most-one, Keeps-order, Exact, Up-law, Down-law, Toward-zero-law, Nearest-law, RoundingLaws}
 use Rattle.readings.proofs.Cases.{lt-or-ge}

@@ -14,13 +14,13 @@ formatOf Long = binary64
 formatOf Short = binary32
 
 -- the value of a pattern, or none where it is an infinity's or a NaN's
-abbrev pub patternValue : Format → ℕ → Option ℤ
-patternValue f b = floatValue (ofBits f b)
+abbrev pub encodedValue : Format → ℕ → Option ℤ
+encodedValue f b = floatValue (ofBits f b)
 
 -- b is a pattern of the format, and v is its value
 pub record Encodes (f : Format) (b : ℕ) (v : ℤ) : Type 0 where
   pub width : b < 2 * top f
-  pub value : patternValue f b ≡ Some v
+  pub value : encodedValue f b ≡ Some v
 
 -- the smallest positive number is 2 ^ lowest f units: one unit in binary64, 2 ^ 925 in binary32
 abbrev pub lowest : Format → ℕ

@@ -10,16 +10,16 @@ use Rattle.std.specs.declared.option.Option.the-variants.{Some}
 use Rattle.numbers.specs.Units.{signed}
 use Rattle.readings.specs.declared.forms.Direction.{Direction}
 use Rattle.readings.specs.declared.forms.Direction.the-variants.{Nearest, TowardZero, Up, Down}
-use Rattle.readings.specs.Formats.{Encodes, patternValue, lowest, largest}
+use Rattle.readings.specs.Formats.{Encodes, encodedValue, lowest, largest}
 use Rattle.readings.specs.Rounding.{distance, Rounds}
 use Rattle.readings.specs.Rounded.{rounded}
 
 -- the value of a pattern by its three fields: a field of 0 has no leading digit and counts as a field of 1
 abbrev pub Subnormal-value : Type 0
-Subnormal-value = (f : Format) (s : Bool) (t : ℕ) → t < hid f → patternValue f (cond s (top f) 0 + t) ≡ Some (signed s (t * 2 ^ lowest f))
+Subnormal-value = (f : Format) (s : Bool) (t : ℕ) → t < hid f → encodedValue f (cond s (top f) 0 + t) ≡ Some (signed s (t * 2 ^ lowest f))
 
 abbrev pub Normal-value : Type 0
-Normal-value = (f : Format) (s : Bool) (e t : ℕ) → suc e < ones f → t < hid f → patternValue f (cond s (top f) 0 + (suc e * hid f + t)) ≡ Some (signed s ((hid f + t) * 2 ^ e * 2 ^ lowest f))
+Normal-value = (f : Format) (s : Bool) (e t : ℕ) → suc e < ones f → t < hid f → encodedValue f (cond s (top f) 0 + (suc e * hid f + t)) ≡ Some (signed s ((hid f + t) * 2 ^ e * 2 ^ lowest f))
 
 -- there is a rounding wherever the total is not above the largest number in size
 abbrev pub Exists : Type 0

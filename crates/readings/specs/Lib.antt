@@ -6,3 +6,4 @@ pub mod Laws
 pub mod Limbs
 pub mod Sums
 pub mod Readings
+pub mod MarkedCases
