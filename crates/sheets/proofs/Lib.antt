@@ -1,0 +1,3 @@
+-- Lemmas that the proofs of `sheets` share.
+pub mod Forms
+pub mod Numerals

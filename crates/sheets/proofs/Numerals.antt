@@ -1,0 +1,72 @@
+-- Digits: how far they run, and the numbers that they write. Assumes nothing.
+use Prim.Native.Nat.{ℕ, zero, suc, _+_, _-_, _*_, _/_, _%_, _^_, _≤_, _<_}
+use mathlib.Core.Path.{_≡_, refl, ap, sym, _∙_, subst}
+use mathlib.Core.Bool.{Bool, true, false, cond}
+use mathlib.Core.List.{List, [], _∷_, _++_}
+use mathlib.Core.Logic.{_⊎_, inl, inr, ⊎-elim}
+use native.Mathlib.Omega.{arith}
+use native.Mathlib.Nat.{pow-suc, mul-le-mul-right, suc-mul}
+use native.Mathlib.Numerals.{add-one}
+use lib.Dec.{eqb, leb, ltb}
+use lib.ListN.{length, getD, take, drop}
+use borrow.Author.Needs.{needs}
+use Rattle.std.proofs.shelf.Lists.{drop-more, drop-all, take-more}
+use Rattle.std.proofs.shelf.Tests.{eqb-true, eqb-false, eq-eqb, ne-eqb, leb-true, leb-false, both-ways}
+use Rattle.sheets.specs.Digits.{worth, digitByte, isDigit, AllDigits, run, numberOn, numberOf, lastDigits}
+
+-- a run, one digit on
+run-cons : (radix m b : ℕ) (bs : List ℕ) → isDigit radix b ≡ true → run radix (suc m) (b ∷ bs) ≡ suc (run radix m bs)
+run-cons radix m b bs h = rw h
+
+pub run-more : (radix most : ℕ) (text : List ℕ) (i : ℕ) → i < most → i < length text → isDigit radix (getD text i 0) ≡ true →
+    i + run radix (most - i) (drop i text) ≡ (i + 1) + run radix (most - (i + 1)) (drop (i + 1) text)
+run-more radix most text i h l d =
+    let e : most - i ≡ suc (most - (i + 1)) = omega arith in
+    let s : run radix (most - i) (drop i text) ≡ suc (run radix (most - (i + 1)) (drop (i + 1) text)) = rw (e, drop-more text i 0 l) (run-cons radix (most - (i + 1)) (getD text i 0) (drop (i + 1) text) d) in
+    omega arith
+
+pub run-stop : (radix most : ℕ) (text : List ℕ) (i : ℕ) → i < length text → isDigit radix (getD text i 0) ≡ false → run radix (most - i) (drop i text) ≡ 0
+run-stop radix most text i l d = rw (drop-more text i 0 l) (go (most - i))
+  where
+    go : (m : ℕ) → run radix m (getD text i 0 ∷ drop (i + 1) text) ≡ 0
+    go zero = refl
+    go (suc m) = rw d
+
+pub run-none : (radix : ℕ) (text : List ℕ) (m : ℕ) → m ≡ 0 → run radix m text ≡ 0
+run-none radix text m e = rw e
+
+pub run-end : (radix most : ℕ) (text : List ℕ) (i : ℕ) → length text ≤ i → run radix (most - i) (drop i text) ≡ 0
+run-end radix most text i l = rw (drop-all i text l) (go (most - i))
+  where
+    go : (m : ℕ) → run radix m [] ≡ 0
+    go zero = refl
+    go (suc m) = refl
+
+-- the number, one digit on
+numberOn-append : (radix n : ℕ) (xs ys : List ℕ) → numberOn radix n (xs ++ ys) ≡ numberOn radix (numberOn radix n xs) ys
+numberOn-append radix n [] ys = refl
+numberOn-append radix n (x ∷ xs) ys = numberOn-append radix (n * radix + worth x) xs ys
+
+pub number-push : (radix : ℕ) (xs : List ℕ) (b : ℕ) → numberOf radix (xs ++ (b ∷ [])) ≡ numberOf radix xs * radix + worth b
+number-push radix xs b = numberOn-append radix 0 xs (b ∷ [])
+
+pub number-more : (radix : ℕ) (text : List ℕ) (i : ℕ) → i < length text → numberOf radix (take (i + 1) text) ≡ numberOf radix (take i text) * radix + worth (getD text i 0)
+number-more radix text i l = ap (numberOf radix) (take-more text i 0 l) ∙ number-push radix (take i text) (getD text i 0)
+
+-- a digit more keeps the number below the next power
+pub power-more : (radix i n d : ℕ) → n < radix ^ i → d < radix → n * radix + d < radix ^ (i + 1)
+power-more radix i n d h l =
+    let e : radix ^ (i + 1) ≡ radix ^ i * radix = rw add-one (pow-suc radix i) in
+    let m : suc n * radix ≤ radix ^ i * radix = mul-le-mul-right radix h in
+    let a : suc n * radix ≡ n * radix + radix = suc-mul n radix in
+    omega arith
+
+-- a run is within the text and within its limit
+pub run-within : (radix most : ℕ) (text : List ℕ) → (run radix most text ≤ length text) × (run radix most text ≤ most)
+run-within radix zero text = (omega arith, omega arith)
+run-within radix (suc most) [] = (omega arith, omega arith)
+run-within radix (suc most) (b ∷ bs) = go (isDigit radix b) (run-within radix most bs)
+  where
+    go : (test : Bool) → (run radix most bs ≤ length bs) × (run radix most bs ≤ most) → (cond test (suc (run radix most bs)) 0 ≤ suc (length bs)) × (cond test (suc (run radix most bs)) 0 ≤ suc most)
+    go true h = (omega arith, omega arith)
+    go false h = (omega arith, omega arith)
