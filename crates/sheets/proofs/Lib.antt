@@ -1,3 +1,5 @@
 -- Lemmas that the proofs of `sheets` share.
 pub mod Forms
 pub mod Numerals
+pub mod Fields
+pub mod Outputs

@@ -2,7 +2,7 @@
 use Prim.Native.Nat.{ℕ, zero, suc, _+_, _-_, _*_, _/_, _%_, _^_, _≤_, _<_}
 use mathlib.Core.Path.{_≡_, refl, ap, sym, _∙_, subst}
 use mathlib.Core.Bool.{Bool, true, false, cond}
-use mathlib.Core.List.{List, [], _∷_, _++_}
+use mathlib.Core.List.{List, [], _∷_, _++_, append-assoc}
 use mathlib.Core.Logic.{_⊎_, inl, inr, ⊎-elim}
 use native.Mathlib.Omega.{arith}
 use native.Mathlib.Nat.{pow-suc, mul-le-mul-right, suc-mul}
@@ -10,8 +10,10 @@ use native.Mathlib.Numerals.{add-one}
 use lib.Dec.{eqb, leb, ltb}
 use lib.ListN.{length, getD, take, drop}
 use borrow.Author.Needs.{needs}
-use Rattle.std.proofs.shelf.Lists.{drop-more, drop-all, take-more}
-use Rattle.std.proofs.shelf.Tests.{eqb-true, eqb-false, eq-eqb, ne-eqb, leb-true, leb-false, both-ways}
+use Rattle.std.proofs.shelf.Lists.{drop-more, drop-all, take-more, length-push}
+use Rattle.std.proofs.shelf.Tests.{cond-true, lt-ltb}
+use Rattle.std.proofs.shelf.Decimals.{decimal-by-steps}
+use Rattle.std.specs.Written.{decimal}
 use Rattle.sheets.specs.Digits.{worth, digitByte, isDigit, AllDigits, run, numberOn, numberOf, lastDigits}
 
 -- a run, one digit on
@@ -70,3 +72,25 @@ run-within radix (suc most) (b ∷ bs) = go (isDigit radix b) (run-within radix 
     go : (test : Bool) → (run radix most bs ≤ length bs) × (run radix most bs ≤ most) → (cond test (suc (run radix most bs)) 0 ≤ suc (length bs)) × (cond test (suc (run radix most bs)) 0 ≤ suc most)
     go true h = (omega arith, omega arith)
     go false h = (omega arith, omega arith)
+
+-- the lowest digit goes before those that are written
+pub last-more : (radix m n : ℕ) (ds : List ℕ) → lastDigits radix (suc m) n ++ ds ≡ lastDigits radix m (n / radix) ++ (digitByte (n % radix) ∷ ds)
+unfolding lastDigits
+last-more radix m n ds = append-assoc (lastDigits radix m (n / radix)) (digitByte (n % radix) ∷ []) ds
+
+-- as many last digits as the decimal text has are that text
+pub decimal-last : (n : ℕ) → n < 2 ^ 64 → lastDigits 10 (length (decimal n)) n ≡ decimal n
+unfolding lastDigits
+decimal-last n h = decimal-by-steps (λ k ds. lastDigits 10 (length ds) k ≡ ds) first more n h
+  where
+    first : (k : ℕ) → k < 10 → lastDigits 10 1 k ≡ (48 + k) ∷ []
+    first k l =
+        let e : k % 10 ≡ k = omega arith in
+        let d : digitByte k ≡ 48 + k = cond-true (ltb k 10) (48 + k) (87 + k) (lt-ltb k 10 l) in
+        ap (λ j. j ∷ []) (ap digitByte e ∙ d)
+    more : (k : ℕ) (ds : List ℕ) → 10 ≤ k → lastDigits 10 (length ds) (k / 10) ≡ ds → lastDigits 10 (length (ds ++ ((48 + k % 10) ∷ []))) k ≡ ds ++ ((48 + k % 10) ∷ [])
+    more k ds l e =
+        let len : length (ds ++ ((48 + k % 10) ∷ [])) ≡ suc (length ds) = length-push ds (48 + k % 10) ∙ add-one (length ds) in
+        let small : k % 10 < 10 = omega arith in
+        let d : digitByte (k % 10) ≡ 48 + k % 10 = cond-true (ltb (k % 10) 10) (48 + k % 10) (87 + k % 10) (lt-ltb (k % 10) 10 small) in
+        rw (len, e, d)

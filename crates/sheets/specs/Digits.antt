@@ -35,6 +35,6 @@ abbrev pub numberOf : ℕ → List ℕ → ℕ
 numberOf radix text = numberOn radix 0 text
 
 -- the last `count` digits of n, the highest first
-abbrev pub lastDigits : ℕ → ℕ → ℕ → List ℕ
+unfoldable pub lastDigits : ℕ → ℕ → ℕ → List ℕ
 lastDigits radix zero n = []
 lastDigits radix (suc count) n = lastDigits radix count (n / radix) ++ (digitByte (n % radix) ∷ [])

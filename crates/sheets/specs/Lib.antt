@@ -1,3 +1,6 @@
--- The definitions that the contracts of `sheets` cite.
+-- The definitions that the contracts of `sheets` cite: forms of text, digits, and the shape of a line.
 pub mod Forms
 pub mod Digits
+pub mod Shapes
+pub mod Outputs
+pub mod Reports

@@ -1,27 +1,37 @@
 //! The two reports as text: of a refused line, and of the sum.
+ghost use mathlib.Core.Path.{_≡_};
+ghost use lib.ListN.{length};
+ghost use Rattle.sheets.specs.Outputs.{Fits, handed};
+ghost use Rattle.sheets.specs.Reports.{refusedReport, sumReport};
 use crate::text::Text;
 use numbers::refusal::Refusal;
 
 /// `no`, line, code and place, parted by tabs, with a line feed.
-pub fn write_refused(line: u64, code: u64, place: u64, out: &mut [u8]) -> Result<usize, Refusal> {
+pub fn write_refused(line: u64, code: u64, place: u64, out: &mut [u8]) -> Result<usize, Refusal>
+    ensures answer { λ r. ⌜ Fits (refusedReport line code place) (length (now (out .entry))) r ⌝ }
+    ensures bytes { λ _. ⌜ now (out .exit) ≡ handed (refusedReport line code place) (now (out .entry)) ⌝ }
+{
     let mut text = Text::new();
-    text.push_all(b"no\t");
-    text.push_decimal(line);
-    text.push(b'\t');
-    text.push_decimal(code);
-    text.push(b'\t');
-    text.push_decimal(place);
-    text.push(b'\n');
+    text.put_bytes(b"no\t");
+    text.put_decimal(line);
+    text.put_bytes(b"\t");
+    text.put_decimal(code);
+    text.put_bytes(b"\t");
+    text.put_decimal(place);
+    text.put_bytes(b"\n");
     text.copy_to(out)
 }
 
-/// `sum`, the pattern in 16 digits and the number of products, parted by tabs, with a line feed.
-pub fn write_sum(pattern: u64, products: u64, out: &mut [u8]) -> Result<usize, Refusal> {
+/// `sum`, the pattern in hexadecimal and the number of products, parted by tabs, with a line feed.
+pub fn write_sum(pattern: u64, products: u64, out: &mut [u8]) -> Result<usize, Refusal>
+    ensures answer { λ r. ⌜ Fits (sumReport pattern products) (length (now (out .entry))) r ⌝ }
+    ensures bytes { λ _. ⌜ now (out .exit) ≡ handed (sumReport pattern products) (now (out .entry)) ⌝ }
+{
     let mut text = Text::new();
-    text.push_all(b"sum\t");
-    text.push_digits(pattern, 16, 16);
-    text.push(b'\t');
-    text.push_decimal(products);
-    text.push(b'\n');
+    text.put_bytes(b"sum\t");
+    text.put_digits(pattern, 16, 16);
+    text.put_bytes(b"\t");
+    text.put_decimal(products);
+    text.put_bytes(b"\n");
     text.copy_to(out)
 }

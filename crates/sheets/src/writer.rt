@@ -12,8 +12,8 @@ pub fn write_line<K: Written, L: Written>(
 ) -> Result<usize, Refusal> {
     let mut text = Text::new();
     match word {
-        Word::Add => text.push_all(b"add"),
-        Word::Sub => text.push_all(b"sub"),
+        Word::Add => text.put_bytes(b"add"),
+        Word::Sub => text.put_bytes(b"sub"),
     }
     write_field::<K>(first, &mut text);
     write_field::<L>(second, &mut text);
@@ -21,7 +21,7 @@ pub fn write_line<K: Written, L: Written>(
 }
 
 fn write_field<K: Written>(element: K::Element, text: &mut Text) {
-    text.push(b'\t');
-    text.push(K::LETTER);
+    text.put_byte(b'\t');
+    text.put_byte(K::field_letter());
     K::write(element, text);
 }

@@ -43,7 +43,7 @@ pub impl Written for Patterns as PatternsWritten {
     }
 
     fn write(element: u64, text: &mut Text) {
-        text.push_digits(element, 16, pattern_digits());
+        text.put_digits(element, 16, pattern_digits());
     }
 }
 
@@ -88,9 +88,9 @@ pub impl Written for Counts as CountsWritten {
 
     fn write(element: i32, text: &mut Text) {
         if element < 0 {
-            text.push(b'-');
+            text.put_byte(b'-');
         }
-        text.push_decimal(u64::from(element.unsigned_abs()));
+        text.put_decimal(u64::from(element.unsigned_abs()));
     }
 }
 
