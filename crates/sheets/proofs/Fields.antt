@@ -1,17 +1,21 @@
 -- How far a text goes along the shapes of a pattern and of a count. Assumes nothing.
 use Prim.Native.Nat.{ℕ, zero, suc, max, _+_, _-_, _≤_, _<_}
-use mathlib.Core.Path.{_≡_, refl, ap, sym, _∙_}
+use mathlib.Core.Path.{_≡_, refl, ap, sym, subst, _∙_}
 use mathlib.Core.Bool.{Bool, true, false, cond, not, _&&_}
 use mathlib.Core.List.{List, [], _∷_, _++_}
 use mathlib.Core.Logic.{_⊎_, inl, inr}
 use native.Mathlib.Omega.{arith}
-use lib.Dec.{eqb, leb, ltb}
+use lib.Dec.{eqb, leb, ltb, lit<, lit≤}
 use lib.ListN.{length, getD, take, drop}
+use Rattle.std.specs.declared.option.Option.the-variants.{Some, None}
+use Rattle.std.proofs.shelf.Lists.{length-take-le}
 use Rattle.std.proofs.shelf.Tests.{eqb-true, eqb-false, eq-eqb, ne-eqb, both-ways}
 use Rattle.std.proofs.shelf.Ways.{tells}
-use Rattle.sheets.specs.Digits.{worth, isDigit, AllDigits, run, numberOf}
+use Rattle.sheets.specs.Digits.{worth, isDigit, AllDigits, run, numberOf, lastDigits}
+use Rattle.sheets.specs.Elements.{TextAt, Closed, patternText, countText, NoPattern, NoCount}
 use Rattle.sheets.specs.Forms.{Class, Form, end, one, either, Lang, reach}
 use Rattle.sheets.specs.Shapes.{byte, digitOf, hexDigit, decimalDigit, leadingDigit, literal, repeat, upTo, patternShape, sizeShape, countShape}
+use Rattle.sheets.proofs.Numerals.{run-within, last-number}
 
 -- the bytes of a run are digits
 pub run-digits : (radix most : ℕ) (text : List ℕ) → AllDigits radix (take (run radix most text) text)
@@ -64,3 +68,21 @@ digits-upTo zero [] d e = tt
 digits-upTo zero (b ∷ bs) d e = omega arith
 digits-upTo (suc n) [] d e = inl tt
 digits-upTo (suc n) (b ∷ bs) d e = inr (d .0, digits-upTo n bs (d .1) (omega arith))
+
+-- what reading a pattern finds
+pub pattern-read : (bytes : List ℕ) (n : ℕ) → run 16 16 bytes ≡ 16 → n ≡ numberOf 16 (take 16 bytes) → TextAt patternShape patternText NoPattern bytes (record { len = 16; element = Some n })
+unfolding patternShape patternText
+pattern-read bytes n all is =
+    let within : 16 ≤ length bytes = omega (arith, run-within 16 16 bytes) in
+    let len : length (take 16 bytes) ≡ 16 = length-take-le 16 bytes within in
+    let digits : AllDigits 16 (take 16 bytes) = subst (λ k. AllDigits 16 (take k bytes)) all (run-digits 16 16 bytes) in
+    record {
+      within = within;
+      is-shape = digits-repeat 16 refl 16 (take 16 bytes) digits len;
+      goes-on = λ rest closed. repeat-all 16 refl 16 rest bytes all;
+      element-is = (ap (lastDigits 16 16) is ∙ last-number 16 16 (take 16 bytes) (lit< tt) (lit≤ tt) digits len, λ bad. bad)
+    }
+
+pub pattern-stop : (bytes : List ℕ) → run 16 16 bytes < 16 → (rest : Form) → reach (patternShape rest) bytes ≡ run 16 16 bytes
+unfolding patternShape
+pattern-stop bytes few rest = repeat-some 16 refl 16 rest bytes few

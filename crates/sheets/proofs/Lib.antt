@@ -2,4 +2,5 @@
 pub mod Forms
 pub mod Numerals
 pub mod Fields
+pub mod Counted
 pub mod Outputs

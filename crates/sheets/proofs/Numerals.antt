@@ -5,13 +5,14 @@ use mathlib.Core.Bool.{Bool, true, false, cond}
 use mathlib.Core.List.{List, [], _∷_, _++_, append-assoc}
 use mathlib.Core.Logic.{_⊎_, inl, inr, ⊎-elim}
 use native.Mathlib.Omega.{arith}
-use native.Mathlib.Nat.{pow-suc, mul-le-mul-right, suc-mul}
+use native.Mathlib.Nat.{pow-zero, pow-suc, mul-le-mul-right, suc-mul, mul-comm, add-zero, mod-lt, mod-eq-of-lt, div-eq-of-lt, div-add-mod', div-lt-iff-lt-mul, mul-add-div-right, mul-add-mod-self-right}
 use native.Mathlib.Numerals.{add-one}
 use lib.Dec.{eqb, leb, ltb}
 use lib.ListN.{length, getD, take, drop}
 use borrow.Author.Needs.{needs}
-use Rattle.std.proofs.shelf.Lists.{drop-more, drop-all, take-more, length-push}
-use Rattle.std.proofs.shelf.Tests.{cond-true, lt-ltb}
+use Rattle.std.proofs.shelf.Lists.{drop-more, drop-all, take-more, take-all, length-push, length-take-le, nil-from-length}
+use Rattle.std.proofs.shelf.Tests.{cond-true, lt-ltb, ltb-true}
+use Rattle.std.proofs.shelf.Ways.{tells}
 use Rattle.std.proofs.shelf.Decimals.{decimal-by-steps}
 use Rattle.std.specs.Written.{decimal}
 use Rattle.sheets.specs.Digits.{worth, digitByte, isDigit, AllDigits, run, numberOn, numberOf, lastDigits}
@@ -94,3 +95,71 @@ decimal-last n h = decimal-by-steps (λ k ds. lastDigits 10 (length ds) k ≡ ds
         let small : k % 10 < 10 = omega arith in
         let d : digitByte (k % 10) ≡ 48 + k % 10 = cond-true (ltb (k % 10) 10) (48 + k % 10) (87 + k % 10) (lt-ltb (k % 10) 10 small) in
         rw (len, e, d)
+
+-- a digit and its byte
+pub worth-byte : (d : ℕ) → d < 16 → worth (digitByte d) ≡ d
+worth-byte d h = grind (arith, tells)
+
+pub byte-worth : (radix b : ℕ) → radix ≤ 16 → isDigit radix b ≡ true → digitByte (worth b) ≡ b
+byte-worth radix b h d = let small : worth b < 16 = omega (arith, ltb-true (worth b) radix d) in go small
+  where
+    go : worth b < 16 → digitByte (worth b) ≡ b
+    go small = grind (arith, tells)
+
+-- digits of a joined text
+pub digits-parts : (radix : ℕ) (xs ys : List ℕ) → AllDigits radix (xs ++ ys) → AllDigits radix xs × AllDigits radix ys
+digits-parts radix [] ys h = (tt, h)
+digits-parts radix (x ∷ xs) ys h = let k = digits-parts radix xs ys (h .1) in ((h .0, k .0), k .1)
+
+pub digits-join : (radix : ℕ) (xs ys : List ℕ) → AllDigits radix xs → AllDigits radix ys → AllDigits radix (xs ++ ys)
+digits-join radix [] ys h k = k
+digits-join radix (x ∷ xs) ys h k = (h .0, digits-join radix xs ys (h .1) k)
+
+-- the digits of a text's number are the text
+pub last-number : (radix k : ℕ) (t : List ℕ) → 0 < radix → radix ≤ 16 → AllDigits radix t → length t ≡ k → lastDigits radix k (numberOf radix t) ≡ t
+unfolding lastDigits
+last-number radix zero t p q d e = sym (nil-from-length t e)
+last-number radix (suc k) t p q d e = go (last-number radix k (take k t) p q)
+  where
+    b : ℕ
+    b = getD t k 0
+    split : t ≡ take k t ++ (b ∷ [])
+    split = sym (take-all (k + 1) t (omega arith)) ∙ take-more t k 0 (omega arith)
+    parts : AllDigits radix (take k t) × AllDigits radix (b ∷ [])
+    parts = digits-parts radix (take k t) (b ∷ []) (subst (AllDigits radix) split d)
+    number-is : numberOf radix t ≡ numberOf radix (take k t) * radix + worth b
+    number-is = ap (numberOf radix) split ∙ number-push radix (take k t) b
+    small : worth b < radix
+    small = ltb-true (worth b) radix (parts .1 .0)
+    quotient : numberOf radix t / radix ≡ numberOf radix (take k t)
+    quotient = ap (λ n. n / radix) number-is ∙ mul-add-div-right p (numberOf radix (take k t)) (worth b) ∙ rw (div-eq-of-lt small) (add-zero (numberOf radix (take k t)))
+    remainder : numberOf radix t % radix ≡ worth b
+    remainder = ap (λ n. n % radix) number-is ∙ mul-add-mod-self-right (numberOf radix (take k t)) radix (worth b) ∙ mod-eq-of-lt small
+    go : (AllDigits radix (take k t) → length (take k t) ≡ k → lastDigits radix k (numberOf radix (take k t)) ≡ take k t) → lastDigits radix k (numberOf radix t / radix) ++ (digitByte (numberOf radix t % radix) ∷ []) ≡ t
+    go ih =
+        let front : lastDigits radix k (numberOf radix t / radix) ≡ take k t = ap (lastDigits radix k) quotient ∙ ih (parts .0) (length-take-le k t (omega arith)) in
+        let digit : digitByte (numberOf radix t % radix) ≡ b = ap digitByte remainder ∙ byte-worth radix b q (parts .1 .0) in
+        let whole = sym split in
+        cc
+
+-- the number of the last digits of n is n, if it has no more
+pub number-last : (radix k n : ℕ) → 0 < radix → radix ≤ 16 → n < radix ^ k → numberOf radix (lastDigits radix k n) ≡ n
+unfolding lastDigits
+number-last radix zero n p q h = omega (arith, pow-zero radix)
+number-last radix (suc k) n p q h =
+    let small : n % radix < radix = mod-lt n p in
+    let below : n / radix < radix ^ k = div-lt-iff-lt-mul {k = radix} {x = n} {y = radix ^ k} p .1 (subst (λ m. n < m) (pow-suc radix k) h) in
+    let ih = number-last radix k (n / radix) p q below in
+    let push = number-push radix (lastDigits radix k (n / radix)) (digitByte (n % radix)) in
+    let worth-is = worth-byte (n % radix) (omega arith) in
+    let whole = div-add-mod' n radix in
+    cc
+
+-- last digits are digits
+pub digits-last : (radix k n : ℕ) → 0 < radix → radix ≤ 16 → AllDigits radix (lastDigits radix k n)
+unfolding lastDigits
+digits-last radix zero n p q = tt
+digits-last radix (suc k) n p q =
+    let small : n % radix < radix = mod-lt n p in
+    let worth-is = worth-byte (n % radix) (omega arith) in
+    digits-join radix (lastDigits radix k (n / radix)) (digitByte (n % radix) ∷ []) (digits-last radix k (n / radix) p q) (lt-ltb (worth (digitByte (n % radix))) radix (omega arith), tt)

@@ -2,5 +2,6 @@
 pub mod Forms
 pub mod Digits
 pub mod Shapes
+pub mod Elements
 pub mod Outputs
 pub mod Reports

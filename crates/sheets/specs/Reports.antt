@@ -1,13 +1,9 @@
 -- The bytes of the two reports.
-use Prim.Native.Nat.{ℕ, _/_}
+use Prim.Native.Nat.{ℕ}
 use mathlib.Core.List.{List, _++_}
 use lib.Chars.{codes}
 use Rattle.std.specs.Written.{decimal}
-use Rattle.sheets.specs.Digits.{lastDigits}
-
--- a pattern in hexadecimal, a digit for every four of its bits
-unfoldable pub patternText : ℕ → List ℕ
-patternText pattern = lastDigits 16 (64 / 4) pattern
+use Rattle.sheets.specs.Elements.{patternText}
 
 -- the report of a refused line: its number, the code and the place
 unfoldable pub refusedReport : ℕ → ℕ → ℕ → List ℕ

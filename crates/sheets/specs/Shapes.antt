@@ -42,22 +42,22 @@ upTo zero c rest = rest
 upTo (suc n) c rest = either rest (one c (upTo n c rest))
 
 -- a pattern has a hexadecimal digit for every four of its bits
-abbrev pub patternShape : Form → Form
+unfoldable pub patternShape : Form → Form
 patternShape rest = repeat (64 / 4) hexDigit rest
 
 -- a count is `0`, or an optional `-` and at most ten digits, the first of them not `0`
-abbrev pub sizeShape : Form → Form
+unfoldable pub sizeShape : Form → Form
 sizeShape rest = one leadingDigit (upTo 9 decimalDigit rest)
 
-abbrev pub countShape : Form → Form
+unfoldable pub countShape : Form → Form
 countShape rest = either (literal (codes "0") rest) (either (sizeShape rest) (literal (codes "-") (sizeShape rest)))
 
 -- the letter of a kind, and the text of one of its elements
-abbrev pub fieldShape : Form → Form
+unfoldable pub fieldShape : Form → Form
 fieldShape rest = either (literal (codes "p") (patternShape rest)) (literal (codes "c") (countShape rest))
 
-abbrev pub fieldsShape : Form
+unfoldable pub fieldsShape : Form
 fieldsShape = literal (codes "\t") (fieldShape (literal (codes "\t") (fieldShape end)))
 
-abbrev pub lineShape : Form
+unfoldable pub lineShape : Form
 lineShape = either (literal (codes "add") fieldsShape) (literal (codes "sub") fieldsShape)

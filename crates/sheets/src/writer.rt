@@ -21,7 +21,7 @@ pub fn write_line<K: Written, L: Written>(
 }
 
 fn write_field<K: Written>(element: K::Element, text: &mut Text) {
-    text.put_byte(b'\t');
+    text.put_bytes(b"\t");
     text.put_byte(K::field_letter());
-    K::write(element, text);
+    text.put_text(&K::write(element));
 }

@@ -1,8 +1,14 @@
 //! The text of each number kind's elements: how it is read and how it is written.
 ghost use mathlib.Core.Path.{_≡_};
-ghost use Prim.Native.Nat.{_≤_};
-ghost use lib.ListN.{length};
-ghost use Rattle.std.specs.Results.{Cases};
+ghost use mathlib.Core.List.{List};
+ghost use Prim.Native.Nat.{ℕ, _≤_};
+ghost use lib.ListN.{length, take};
+ghost use Rattle.numbers.specs.Units.{signed as withSign};
+ghost use Rattle.sheets.specs.Digits.{begins, numberOf, sizeRun};
+ghost use Rattle.sheets.specs.Elements.{patternText, countText, NoPattern, NoCount, ReadsText, Within};
+ghost use Rattle.sheets.specs.Forms.{Form, Lang, end};
+ghost use Rattle.sheets.specs.Outputs.{textOf};
+ghost use Rattle.sheets.specs.Shapes.{patternShape, countShape};
 use crate::digits::Numeral;
 use crate::digits::read_digits;
 use crate::text::Text;
@@ -20,30 +26,45 @@ pub struct Read<E> {
 
 /// A kind of number whose elements have a text on a sheet.
 pub trait Written: Kind {
-    /// The text of an element at the front of `bytes`, or how many bytes go along with one before another byte or the end comes.
-    fn read(bytes: &[u8]) -> Result<Read<Self::Element>, usize>
-        ensures answer { λ r. ⌜ Cases r (λ t. t .len ≤ length (now (bytes .entry))) (λ n. n ≤ length (now (bytes .entry))) ⌝ };
+    /// The shape of the texts, before what follows.
+    ghost shape: { Form → Form };
 
-    /// Puts the text of the element.
-    fn write(element: Self::Element, text: &mut Text);
+    /// The text of an element, behind the letter of the kind.
+    ghost text: { Self·Element → List ℕ };
+
+    /// Whether a text of the shape writes a number outside the kind's range.
+    ghost outside: { List ℕ → Type 0 };
+
+    /// The text of an element at the front of `bytes`, or how many bytes go along with the shape before another byte or the end comes.
+    fn read(bytes: &[u8]) -> Result<Read<Self::Element>, usize>
+        ensures answer { λ r. ⌜ ReadsText shape text outside (now (bytes .entry)) r ⌝ };
+
+    /// The text of the element. It is of the shape, and within the kind's range.
+    fn write(element: Self::Element) -> Text
+        ensures bytes { λ r. ⌜ textOf r ≡ text element ⌝ }
+        ensures limits { λ _. ⌜ length (text element) ≤ 16 ⌝ }
+        ensures law { λ _. ⌜ Lang (shape end) (text element) × (outside (text element) → ⊥) ⌝ };
 }
 
 pub impl Written for Patterns as PatternsWritten {
+    ghost shape = { patternShape };
+    ghost text = { patternText };
+    ghost outside = { NoPattern };
+
     fn read(bytes: &[u8]) -> Result<Read<u64>, usize> {
         let digits = pattern_digits();
         let numeral = read_digits(bytes, 16, digits);
         if numeral.count == digits {
-            Ok(Read {
-                len: digits,
-                element: Some(numeral.number),
-            })
+            Ok(Read { len: digits, element: Some(numeral.number) })
         } else {
             Err(numeral.count)
         }
     }
 
-    fn write(element: u64, text: &mut Text) {
+    fn write(element: u64) -> Text {
+        let mut text = Text::new();
         text.put_digits(element, 16, pattern_digits());
+        text
     }
 }
 
@@ -57,62 +78,67 @@ fn pattern_digits() -> usize
 const COUNT_DIGITS: usize = 10;
 
 pub impl Written for Counts as CountsWritten {
+    ghost shape = { countShape };
+    ghost text = { countText };
+    ghost outside = { NoCount };
+
     fn read(bytes: &[u8]) -> Result<Read<i32>, usize> {
-        match bytes {
-            [b'0', ..] => Ok(Read {
-                len: 1,
-                element: Some(0),
-            }),
-            [b'-', size @ ..] => {
-                let numeral = read_size(size);
-                if numeral.count == 0 {
-                    return Err(1);
-                }
-                Ok(Read {
-                    len: numeral.count + 1,
-                    element: negative_count(numeral.number),
-                })
-            }
-            _ => {
-                let numeral = read_size(bytes);
-                if numeral.count == 0 {
-                    return Err(0);
-                }
-                Ok(Read {
-                    len: numeral.count,
-                    element: i32::try_from(numeral.number).ok(),
-                })
-            }
+        if begins_with(bytes, b'0') {
+            return Ok(Read { len: 1, element: Some(0) });
         }
+        let negative = begins_with(bytes, b'-');
+        let sign = if negative { 1 } else { 0 };
+        let size = read_size(&bytes[sign..]);
+        if size.count == 0 {
+            return Err(sign);
+        }
+        Ok(Read { len: sign + size.count, element: count_of(negative, size.number) })
     }
 
-    fn write(element: i32, text: &mut Text) {
+    fn write(element: i32) -> Text {
+        let mut text = Text::new();
         if element < 0 {
-            text.put_byte(b'-');
+            text.put_bytes(b"-");
         }
         text.put_decimal(u64::from(element.unsigned_abs()));
+        text
+    }
+}
+
+/// Whether the bytes begin with that byte.
+fn begins_with(bytes: &[u8], byte: u8) -> bool
+    ensures answer { λ r. ⌜ r ≡ begins byte (now (bytes .entry)) ⌝ }
+{
+    match bytes {
+        [] => false,
+        [first, ..] => *first == byte,
     }
 }
 
 /// The digits of a number other than zero at the front, the first of them not 0.
 fn read_size(bytes: &[u8]) -> Numeral
-    ensures { λ r. ⌜ r .count ≤ length (now (bytes .entry)) ⌝ }
+    ensures count { λ r. ⌜ r .count ≡ sizeRun (now (bytes .entry)) ⌝ }
+    ensures value { λ r. ⌜ r .number ≡ numberOf 10 (take (r .count) (now (bytes .entry))) ⌝ }
 {
-    match bytes {
-        [] => Numeral {
-            count: 0,
-            number: 0,
-        },
-        [b'0', ..] => Numeral {
-            count: 0,
-            number: 0,
-        },
-        [_, ..] => read_digits(bytes, 10, COUNT_DIGITS),
+    if begins_with(bytes, b'0') {
+        return Numeral { count: 0, number: 0 };
     }
+    read_digits(bytes, 10, COUNT_DIGITS)
 }
 
-/// The count of the opposite sign.
-fn negative_count(size: u64) -> Option<i32> {
-    let size = i64::try_from(size).ok()?;
-    i32::try_from(-size).ok()
+/// The count of that sign and size, or none where it has too many bits.
+fn count_of(negative: bool, size: u64) -> Option<i32>
+    ensures answer { λ r. ⌜ Within 32 (withSign negative size) r ⌝ }
+{
+    let limit = 1u64 << (Counts::WIDTH - 1);
+    if size > limit {
+        return None;
+    }
+    if negative {
+        return Some(-(size as i64) as i32);
+    }
+    if size == limit {
+        return None;
+    }
+    Some(size as i32)
 }

@@ -45,6 +45,13 @@ impl Text {
         }
     }
 
+    /// Puts another text behind this one, if there is room for all of it.
+    pub(crate) fn put_text(&mut self, text: &Text)
+        ensures bytes { λ _. ⌜ textOf (now (self .exit)) ≡ put (textOf (now (self .entry))) (textOf (now (text .entry))) ⌝ }
+    {
+        self.put_bytes(&text.bytes[0..text.len]);
+    }
+
     /// Puts the last `count` digits of n, the highest first.
     pub(crate) fn put_digits(&mut self, n: u64, radix: u64, count: usize)
         requires { ⌜ 1 ≤ radix ⌝ ∗ ⌜ radix ≤ 16 ⌝ ∗ ⌜ count ≤ 20 ⌝ }

@@ -8,7 +8,8 @@ use lib.ListN.{length, length-append}
 use Rattle.std.specs.Written.{decimal}
 use Rattle.sheets.specs.Digits.{lastDigits}
 use Rattle.sheets.specs.Outputs.{textOf, Fits, handed}
-use Rattle.sheets.specs.Reports.{patternText, sumReport}
+use Rattle.sheets.specs.Elements.{patternText}
+use Rattle.sheets.specs.Reports.{sumReport}
 use Rattle.sheets.proofs.Outputs.{put-on, length-decimal, length-last}
 use Rattle.sheets.proofs.reports.write_sum.Needs as need
 
