@@ -3,4 +3,7 @@ pub mod Forms
 pub mod Numerals
 pub mod Fields
 pub mod Counted
+pub mod Leading
+pub mod Literals
+pub mod Entire
 pub mod Outputs

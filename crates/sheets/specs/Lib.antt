@@ -3,5 +3,6 @@ pub mod Forms
 pub mod Digits
 pub mod Shapes
 pub mod Elements
+pub mod Lines
 pub mod Outputs
 pub mod Reports

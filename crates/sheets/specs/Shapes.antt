@@ -56,8 +56,8 @@ countShape rest = either (literal (codes "0") rest) (either (sizeShape rest) (li
 unfoldable pub fieldShape : Form → Form
 fieldShape rest = either (literal (codes "p") (patternShape rest)) (literal (codes "c") (countShape rest))
 
-unfoldable pub fieldsShape : Form
-fieldsShape = literal (codes "\t") (fieldShape (literal (codes "\t") (fieldShape end)))
+unfoldable pub pairShape : Form
+pairShape = fieldShape (literal (codes "\t") (fieldShape end))
 
 unfoldable pub lineShape : Form
-lineShape = either (literal (codes "add") fieldsShape) (literal (codes "sub") fieldsShape)
+lineShape = either (literal (codes "add\t") pairShape) (literal (codes "sub\t") pairShape)

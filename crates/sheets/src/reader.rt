@@ -1,7 +1,10 @@
 //! The line reader: one pass over the caller's line, which finds its shape and its fields.
-ghost use Prim.Native.Nat.{_+_, _^_, _<_, _≤_};
-ghost use lib.ListN.{length};
-ghost use Rattle.std.specs.Results.{Cases};
+ghost use mathlib.Core.Path.{_≡_};
+ghost use Prim.Native.Nat.{_<_, _≤_};
+ghost use lib.ListN.{length, getD};
+ghost use Rattle.numbers.specs.Refusals.{Refused, sideOf};
+ghost use Rattle.sheets.specs.Forms.{shared};
+ghost use Rattle.sheets.specs.Lines.{ReadsWord, ReadsField, ReadsLine};
 use crate::line::Field;
 use crate::line::Line;
 use crate::line::Word;
@@ -19,6 +22,8 @@ use numbers::refusal::Refusal;
 use numbers::refusal::Side;
 
 const TAB: u8 = b'\t';
+/// Behind the word and a tab.
+const FIRST: usize = 4;
 
 /// A field that was found: where it ends, and the field, none where its number lies outside the range of its kind.
 #[derive(Drop)]
@@ -28,117 +33,105 @@ struct Found<'a> {
 }
 
 /// Reads a line: its word and its fields, or where it departs from the shape of a line, or which count is out of range.
-pub fn read_line<'a>(line: &'a [u8]) -> Result<Line<'a>, Refusal> {
+pub fn read_line<'a>(line: &'a [u8]) -> Result<Line<'a>, Refusal>
+    ensures answer { λ r. ⌜ ReadsLine (now (line .entry)) r ⌝ }
+{
     let word = read_word(line)?;
-    let Found {
-        end: tab,
-        field: first,
-    } = read_field(line, 4)?;
-    if tab >= line.len() || line[tab] != TAB {
+    let Found { end: tab, field: first } = read_field(line, FIRST)?;
+    if tab >= line.len() {
+        return Err(misshapen(tab));
+    }
+    if line[tab] != TAB {
         return Err(misshapen(tab));
     }
     let Found { end, field: second } = read_field(line, tab + 1)?;
     if end < line.len() {
         return Err(misshapen(end));
     }
-    let first = first.ok_or(out_of_range(4, Side::First))?;
-    let second = second.ok_or(out_of_range(tab + 1, Side::Second))?;
-    Ok(Line {
-        word,
-        first,
-        second,
-    })
+    let Some(first) = first else {
+        return Err(out_of_range(FIRST, Side::First));
+    };
+    let Some(second) = second else {
+        return Err(out_of_range(tab + 1, Side::Second));
+    };
+    Ok(Line { word, first, second })
 }
 
-fn misshapen(place: usize) -> Refusal {
-    Refusal {
-        reason: Reason::Shape,
-        place: place as u64,
-        side: Side::Neither,
-    }
+fn misshapen(place: usize) -> Refusal
+    ensures answer { λ r. ⌜ Refused r 5 place 0 ⌝ }
+{
+    Refusal { reason: Reason::Shape, place: place as u64, side: Side::Neither }
 }
 
-fn out_of_range(place: usize, side: Side) -> Refusal {
-    Refusal {
-        reason: Reason::CountRange,
-        place: place as u64,
-        side,
-    }
+fn out_of_range(place: usize, side: Side) -> Refusal
+    ensures answer { λ r. ⌜ Refused r 6 place (sideOf side) ⌝ }
+{
+    Refusal { reason: Reason::CountRange, place: place as u64, side }
 }
 
 /// The word of a line that begins with one and a tab.
-fn read_word(line: &[u8]) -> Result<Word, Refusal> {
-    match line {
-        [b'a', ..] => {
-            begins(line, b"add\t")?;
-            Ok(Word::Add)
-        }
-        [b's', ..] => {
-            begins(line, b"sub\t")?;
-            Ok(Word::Sub)
-        }
-        [] => Err(misshapen(0)),
-        [_, ..] => Err(misshapen(0)),
+fn read_word(line: &[u8]) -> Result<Word, Refusal>
+    ensures answer { λ r. ⌜ ReadsWord (now (line .entry)) r ⌝ }
+{
+    let add = shared_front(line, b"add\t");
+    if add == FIRST {
+        return Ok(Word::Add);
     }
+    let sub = shared_front(line, b"sub\t");
+    if sub == FIRST {
+        return Ok(Word::Sub);
+    }
+    Err(misshapen(add.max(sub)))
 }
 
-/// Nothing where the line begins with `front`.
-fn begins(line: &[u8], front: &[u8]) -> Result<(), Refusal> {
-    for (i, byte) in front.iter().enumerate() {
-        if i >= line.len() || line[i] != *byte {
-            return Err(misshapen(i));
+/// How many leading bytes the line shares with the text.
+fn shared_front(line: &[u8], text: &[u8]) -> usize
+    ensures answer { λ r. ⌜ r ≡ shared (now (line .entry)) (now (text .entry)) ⌝ }
+{
+    for (i, byte) in text.iter().enumerate() {
+        if i >= line.len() {
+            return i;
+        }
+        if line[i] != *byte {
+            return i;
         }
     }
-    Ok(())
+    text.len()
 }
 
 /// The field whose letter stands at `at`.
 fn read_field<'a>(line: &'a [u8], at: usize) -> Result<Found<'a>, Refusal>
-    ensures { λ r. ⌜ Cases r (λ f. (at < f .end) × (f .end ≤ length (now (line .entry)))) (λ _. Unit {0}) ⌝ }
+    requires { ⌜ at ≤ length (now line) ⌝ }
+    ensures answer { λ r. ⌜ ReadsField (now (line .entry)) at r ⌝ }
 {
     if at >= line.len() {
         return Err(misshapen(at));
     }
     let letter = line[at];
-    let place = at as u64;
     if letter == Patterns::LETTER {
-        let Read { len, element } = read_text::<PatternsWritten>(line, at + 1)?;
-        let end = at + 1 + len;
-        let digits = &line[at + 1..end];
-        let field = match element {
-            Some(element) => Some(Field::Pattern {
-                digits,
-                place,
-                element,
-            }),
-            None => None,
-        };
-        Ok(Found { end, field })
-    } else if letter == Counts::LETTER {
-        let Read { len, element } = read_text::<CountsWritten>(line, at + 1)?;
-        let end = at + 1 + len;
-        let digits = &line[at + 1..end];
-        let field = match element {
-            Some(element) => Some(Field::Count {
-                digits,
-                place,
-                element,
-            }),
-            None => None,
-        };
-        Ok(Found { end, field })
-    } else {
-        Err(misshapen(at))
+        return field_of::<PatternsWritten>(line, at);
     }
+    if letter == Counts::LETTER {
+        return field_of::<CountsWritten>(line, at);
+    }
+    Err(misshapen(at))
 }
 
-/// The text of an element of the kind that begins at `at`.
-fn read_text<K: Written>(line: &[u8], at: usize) -> Result<Read<K::Element>, Refusal>
-    requires { ⌜ at ≤ length (now line) ⌝ }
-    ensures { λ r. ⌜ Cases r (λ t. at + t .len ≤ length (now (line .entry))) (λ _. Unit {0}) ⌝ }
+/// The field of the kind whose letter stands at `at`.
+fn field_of<'a, K: Written>(line: &'a [u8], at: usize) -> Result<Found<'a>, Refusal>
+    requires { ⌜ at < length (now line) ⌝ ∗ ⌜ getD (now line) at 0 ≡ K·Kind .letter ⌝ }
+    ensures answer { λ r. ⌜ ReadsField (now (line .entry)) at r ⌝ }
 {
-    match K::read(&line[at..]) {
-        Ok(text) => Ok(text),
-        Err(n) => Err(misshapen(at + n)),
+    let Read { len, element } = match K::read(&line[at + 1..]) {
+        Ok(read) => read,
+        Err(n) => return Err(misshapen(at + 1 + n)),
+    };
+    let end = at + 1 + len;
+    match element {
+        Some(element) => {
+            let field = K::field(&line[at + 1..end], at as u64, element);
+            Ok(Found { end, field: Some(field) })
+        }
+        None => Ok(Found { end, field: None }),
     }
 }

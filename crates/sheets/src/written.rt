@@ -1,16 +1,18 @@
 //! The text of each number kind's elements: how it is read and how it is written.
 ghost use mathlib.Core.Path.{_≡_};
-ghost use mathlib.Core.List.{List};
+ghost use mathlib.Core.List.{List, _∷_};
 ghost use Prim.Native.Nat.{ℕ, _≤_};
 ghost use lib.ListN.{length, take};
 ghost use Rattle.numbers.specs.Units.{signed as withSign};
 ghost use Rattle.sheets.specs.Digits.{begins, numberOf, sizeRun};
 ghost use Rattle.sheets.specs.Elements.{patternText, countText, NoPattern, NoCount, ReadsText, Within};
 ghost use Rattle.sheets.specs.Forms.{Form, Lang, end};
+ghost use Rattle.sheets.specs.Lines.{fieldText, placeOf, Leads, Writes};
 ghost use Rattle.sheets.specs.Outputs.{textOf};
 ghost use Rattle.sheets.specs.Shapes.{patternShape, countShape};
 use crate::digits::Numeral;
 use crate::digits::read_digits;
+use crate::line::Field;
 use crate::text::Text;
 use numbers::counts::Counts;
 use numbers::counts::CountsKind;
@@ -37,7 +39,14 @@ pub trait Written: Kind {
 
     /// The text of an element at the front of `bytes`, or how many bytes go along with the shape before another byte or the end comes.
     fn read(bytes: &[u8]) -> Result<Read<Self::Element>, usize>
-        ensures answer { λ r. ⌜ ReadsText shape text outside (now (bytes .entry)) r ⌝ };
+        ensures answer { λ r. ⌜ ReadsText shape text outside (now (bytes .entry)) r ⌝ }
+        ensures law { λ _. ⌜ Leads (Self·Kind .letter) shape outside ⌝ };
+
+    /// The field that holds an element, with its text and the place of its letter.
+    fn field<'a>(digits: &'a [u8], place: u64, element: Self::Element) -> Field<'a>
+        ensures bytes { λ r. ⌜ fieldText r ≡ Self·Kind .letter ∷ now (digits .entry) ⌝ }
+        ensures answer { λ r. ⌜ placeOf r ≡ place ⌝ }
+        ensures value { λ r. ⌜ (text element ≡ now (digits .entry) → Writes r) ⌝ };
 
     /// The text of the element. It is of the shape, and within the kind's range.
     fn write(element: Self::Element) -> Text
@@ -59,6 +68,10 @@ pub impl Written for Patterns as PatternsWritten {
         } else {
             Err(numeral.count)
         }
+    }
+
+    fn field<'a>(digits: &'a [u8], place: u64, element: u64) -> Field<'a> {
+        Field::Pattern { digits, place, element }
     }
 
     fn write(element: u64) -> Text {
@@ -93,6 +106,10 @@ pub impl Written for Counts as CountsWritten {
             return Err(sign);
         }
         Ok(Read { len: sign + size.count, element: count_of(negative, size.number) })
+    }
+
+    fn field<'a>(digits: &'a [u8], place: u64, element: i32) -> Field<'a> {
+        Field::Count { digits, place, element }
     }
 
     fn write(element: i32) -> Text {

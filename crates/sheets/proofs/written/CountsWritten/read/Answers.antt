@@ -10,12 +10,13 @@ use Rattle.std.proofs.shelf.Tests.{cond-true, cond-false}
 use Rattle.numbers.specs.Units.{signed as withSign}
 use Rattle.sheets.specs.Digits.{begins, sizeRun, numberOf}
 use Rattle.sheets.specs.Elements.{Within}
+use Rattle.sheets.proofs.Leading.{count-leads}
 use Rattle.sheets.proofs.Counted.{size-most, count-zero, count-some, count-stop}
 use Rattle.sheets.proofs.written.CountsWritten.read.Needs as need
 use Rattle.sheets.proofs.written.CountsWritten.read.Needs.{then-negative, else-negative}
 
 pub returns-then-begins-with : need.returns-then-begins-with
-returns-then-begins-with c = record { answer = count-zero (c .args .bytes .now) (sym (c .begins-with .ensures .answer) ∙ c .if-begins-with .taken) }
+returns-then-begins-with c = record { answer = count-zero (c .args .bytes .now) (sym (c .begins-with .ensures .answer) ∙ c .if-begins-with .taken); law = count-leads }
 
 pub returns-then-size-eq0 : need.returns-then-size-eq0
 returns-then-size-eq0 c =
@@ -25,7 +26,7 @@ returns-then-size-eq0 c =
     let sign-is : sign ≡ cond negative 1 0 = elim (c .if-negative .came) [ then-negative w ↦ w .sign-is ∙ sym (cond-true negative 1 0 (w .if-negative .taken)) | else-negative w ↦ w .sign-is ∙ sym (cond-false negative 1 0 (w .if-negative .left)) ] in
     let no-zero : begins 48 bytes ≡ false = sym (c .begins-with .ensures .answer) ∙ c .if-begins-with .left in
     let size-is : c .read-size-size .result .count ≡ sizeRun (drop sign bytes) = c .read-size-size .ensures .count ∙ ap sizeRun (take-rest bytes sign) in
-    record { answer = count-stop bytes negative sign no-zero (sym (c .begins-with-negative .ensures .answer)) sign-is (sym size-is ∙ c .if-size-eq0 .taken) }
+    record { answer = count-stop bytes negative sign no-zero (sym (c .begins-with-negative .ensures .answer)) sign-is (sym size-is ∙ c .if-size-eq0 .taken); law = count-leads }
 
 pub add-result : need.add-result
 add-result c =
@@ -47,4 +48,4 @@ returns c =
     let cut = take-rest bytes sign in
     let size-is : count ≡ sizeRun (drop sign bytes) = c .read-size-size .ensures .count ∙ ap sizeRun cut in
     let number-is : c .read-size-size .result .number ≡ numberOf 10 (take count (drop sign bytes)) = c .read-size-size .ensures .value ∙ ap (λ t. numberOf 10 (take count t)) cut in
-    record { answer = count-some bytes negative sign count no-zero (sym (c .begins-with-negative .ensures .answer)) sign-is size-is (omega arith) (c .count-of .result) (subst (λ n. Within 32 (withSign negative n) (c .count-of .result)) number-is (c .count-of .ensures .answer)) }
+    record { answer = count-some bytes negative sign count no-zero (sym (c .begins-with-negative .ensures .answer)) sign-is size-is (omega arith) (c .count-of .result) (subst (λ n. Within 32 (withSign negative n) (c .count-of .result)) number-is (c .count-of .ensures .answer)); law = count-leads }

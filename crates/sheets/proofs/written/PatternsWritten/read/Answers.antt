@@ -9,6 +9,7 @@ use Rattle.std.specs.declared.option.Option.the-variants.{Some}
 use Rattle.sheets.specs.Digits.{AllDigits, run, numberOf}
 use Rattle.sheets.specs.Elements.{TextAt, patternText, NoPattern}
 use Rattle.sheets.specs.Shapes.{patternShape}
+use Rattle.sheets.proofs.Leading.{pattern-leads}
 use Rattle.sheets.proofs.Fields.{pattern-read, pattern-stop}
 use Rattle.sheets.proofs.Numerals.{run-within}
 use Rattle.sheets.proofs.written.PatternsWritten.read.Needs as need
@@ -26,7 +27,7 @@ returns-then-numeral-digits c =
     let all-is = c .if-numeral-digits .taken in
     let all : run 16 16 bytes ≡ 16 = cc in
     let is : number ≡ numberOf 16 (take 16 bytes) = cc in
-    record { answer = subst (λ k. TextAt patternShape patternText NoPattern bytes (record { len = k; element = Some number })) (sym sixteen) (pattern-read bytes number all is) }
+    record { answer = subst (λ k. TextAt patternShape patternText NoPattern bytes (record { len = k; element = Some number })) (sym sixteen) (pattern-read bytes number all is); law = pattern-leads }
 
 pub returns-else-numeral-digits : need.returns-else-numeral-digits
 returns-else-numeral-digits c =
@@ -36,4 +37,4 @@ returns-else-numeral-digits c =
     let same : c .read-digits-numeral .result .count ≡ run 16 16 bytes = cc in
     let within = run-within 16 16 bytes in
     let few : run 16 16 bytes < 16 = omega arith in
-    record { answer = (omega arith, λ rest. pattern-stop bytes few rest ∙ sym same) }
+    record { answer = (omega arith, λ rest. pattern-stop bytes few rest ∙ sym same); law = pattern-leads }
