@@ -26,6 +26,10 @@ abbrev pub wordText : Word → List ℕ
 wordText Add = codes "add"
 wordText Sub = codes "sub"
 
+-- a word, a tab, a field, a tab and a field
+abbrev pub lineText : List ℕ → List ℕ → List ℕ → List ℕ
+lineText word first second = word ++ (9 ∷ first) ++ (9 ∷ second)
+
 -- the bytes of a field: the letter of its kind and the text behind it
 abbrev pub fieldText : Field → List ℕ
 fieldText (Pattern digits place element) = 112 ∷ now digits
@@ -78,9 +82,9 @@ abbrev pub ReadsWord : List ℕ → Result Word Refusal → Type 0
 ReadsWord line (Ok word) = (line ≡ wordText word ++ (9 ∷ drop 4 line)) × (reach lineShape line ≡ 4 + reach pairShape (drop 4 line))
 ReadsWord line (Err e) = Refused e 5 (e .place) 0 × (e .place ≤ length line) × (reach lineShape line ≡ e .place)
 
--- the bytes are a word, a tab, a field, a tab and a field
+-- the bytes are those of a line of the right shape
 pub record Parts (line word first second : List ℕ) : Type 0 where
-  pub whole : line ≡ word ++ (9 ∷ first) ++ (9 ∷ second)
+  pub whole : line ≡ lineText word first second
   pub is-word : (word ≡ codes "add") ⊎ (word ≡ codes "sub")
   pub is-first : Lang (fieldShape end) first
   pub is-second : Lang (fieldShape end) second

@@ -1,26 +1,43 @@
 //! The line writer: a word and two elements of any two kinds, into the caller's slice.
+ghost use mathlib.Core.Path.{_≡_};
+ghost use mathlib.Core.List.{_∷_, _++_};
+ghost use Prim.Native.Nat.{_≤_};
+ghost use lib.ListN.{length};
+ghost use Rattle.sheets.specs.Lines.{wordText, lineText};
+ghost use Rattle.sheets.specs.Outputs.{textOf, Fits, handed};
 use crate::line::Word;
 use crate::text::Text;
 use crate::written::Written;
+use numbers::kind::Kind;
 use numbers::refusal::Refusal;
 
-pub fn write_line<K: Written, L: Written>(
-    word: Word,
-    first: K::Element,
-    second: L::Element,
-    out: &mut [u8],
-) -> Result<usize, Refusal> {
+/// Writes a line without a line feed. It takes every element of a kind.
+pub fn write_line<K: Written, L: Written>(word: Word, first: K::Element, second: L::Element, out: &mut [u8]) -> Result<usize, Refusal>
+    ensures answer { λ r. ⌜ Fits (lineText (wordText word) (K·Kind .letter ∷ K·Written .text first) (L·Kind .letter ∷ L·Written .text second)) (length (now (out .entry))) r ⌝ }
+    ensures bytes { λ _. ⌜ now (out .exit) ≡ handed (lineText (wordText word) (K·Kind .letter ∷ K·Written .text first) (L·Kind .letter ∷ L·Written .text second)) (now (out .entry)) ⌝ }
+{
     let mut text = Text::new();
-    match word {
-        Word::Add => text.put_bytes(b"add"),
-        Word::Sub => text.put_bytes(b"sub"),
-    }
-    write_field::<K>(first, &mut text);
-    write_field::<L>(second, &mut text);
+    text.put_bytes(word_bytes(word));
+    put_field::<K>(first, &mut text);
+    put_field::<L>(second, &mut text);
     text.copy_to(out)
 }
 
-fn write_field<K: Written>(element: K::Element, text: &mut Text) {
+fn word_bytes(word: Word) -> &'static [u8]
+    ensures bytes { λ r. ⌜ now r ≡ wordText word ⌝ }
+{
+    match word {
+        Word::Add => b"add",
+        Word::Sub => b"sub",
+    }
+}
+
+/// Puts a tab, the kind's letter and the text of the element.
+fn put_field<K: Written>(element: K::Element, text: &mut Text)
+    requires { ⌜ length (textOf (now text)) ≤ 60 ⌝ }
+    ensures bytes { λ _. ⌜ textOf (now (text .exit)) ≡ textOf (now (text .entry)) ++ (9 ∷ (K·Kind .letter ∷ K·Written .text element)) ⌝ }
+    ensures limits { λ _. ⌜ length (K·Written .text element) ≤ 16 ⌝ }
+{
     text.put_bytes(b"\t");
     text.put_byte(K::field_letter());
     text.put_text(&K::write(element));
