@@ -6,3 +6,4 @@ pub mod Elements
 pub mod Lines
 pub mod Outputs
 pub mod Reports
+pub mod Splitting
