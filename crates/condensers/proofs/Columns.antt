@@ -232,20 +232,15 @@ module _ (P R : ℕ) (short : P ≤ 2 ^ 52) where
       cut : (n : ℕ) → n < 2 ^ 84 → n / 2 ^ 32 / 2 ^ 32 < 2 ^ 32
       cut n h = omega arith
 
-  -- the columns end above the third part
-  pub third-inside : R ≤ 1990 → (P * 2 ^ (R % 32) % 2 ^ 128 / 2 ^ 32 / 2 ^ 32 ≡ 0 → ⊥) → R / 32 + 2 < 64
+  -- where the columns end, the third part is nothing
+  pub third-nothing : R ≤ 1990 → R / 32 ≡ 62 → P * 2 ^ (R % 32) % 2 ^ 128 / 2 ^ 32 / 2 ^ 32 ≡ 0
   unfolding moved
-  third-inside top n = go (ltb (R / 32) 62) (ltb→lt (R / 32) 62) (nltb→le (R / 32) 62)
+  third-nothing top h =
+      let r : 2 ^ (R % 32) ≤ 2 ^ 6 = pow-mono {i = R % 32} {j = 6} (omega arith) in
+      ap (λ (x : ℕ). x / 2 ^ 32 / 2 ^ 32) moved-whole ∙ cut moved (lt-of-le-of-lt (mul-le-mul short r) (lit< tt))
     where
       cut : (n : ℕ) → n < 2 ^ 64 → n / 2 ^ 32 / 2 ^ 32 ≡ 0
       cut n h = omega arith
-
-      go : (b : Bool) → (T b → R / 32 < 62) → (T (not b) → 62 ≤ R / 32) → R / 32 + 2 < 64
-      go true l g = omega (arith, l tt)
-      go false l g =
-          let h : 62 ≤ R / 32 = g tt in
-          let r : 2 ^ (R % 32) ≤ 2 ^ 6 = pow-mono {i = R % 32} {j = 6} (omega arith) in
-          absurd (n (ap (λ (x : ℕ). x / 2 ^ 32 / 2 ^ 32) moved-whole ∙ cut moved (lt-of-le-of-lt (mul-le-mul short r) (lit< tt))))
 
   moved-back : moved * 2 ^ (32 * (R / 32)) ≡ P * 2 ^ R
   unfolding moved

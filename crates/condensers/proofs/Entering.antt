@@ -4,7 +4,7 @@ use mathlib.Core.Logic.{_≢_}
 use mathlib.Core.List.{List}
 use mathlib.Core.Bool.{Bool, true, false, not}
 use Prim.Native.Nat.{ℕ, _+_, _*_, _≤_, _<_, _^_}
-use native.Mathlib.Nat.{mul-le-mul-right, zero-add, le-trans, lt-of-le-of-lt}
+use native.Mathlib.Nat.{add-zero, mul-le-mul-right, zero-add, le-trans, lt-of-le-of-lt}
 use native.Mathlib.Omega.{arith}
 use lib.Dec.{T, lit<}
 use lib.IntN.{ℤ, pos, _+ℤ_, natAbs, +ℤ-idr}
@@ -37,6 +37,9 @@ in-range n z h l = lt-of-le-of-lt (le-trans l (mul-le-mul-right (2 ^ 2042) h)) (
 triangle : (a b : ℤ) → natAbs (a +ℤ b) ≤ natAbs a + natAbs b
 triangle a b = omega (arith, ints)
 
+carried : (a b r x y z : ℤ) → r ≡ x +ℤ y → z ≡ pos 0 → a +ℤ y ≡ b +ℤ z → a +ℤ r ≡ b +ℤ x
+carried a b r x y z e f g = omega (arith, ints)
+
 -- a number x other than zero on its way through the table t of count n, at its place k
 pub record Turn (t : List Float) (n : ℕ) (x : Float) (k : ℕ) : Type 0 where
   pub long : length t ≡ 4096
@@ -62,38 +65,35 @@ module _ {t : List Float} {n : ℕ} {x : Float} {k : ℕ} (w : Turn t n x k) whe
   unfolding held
   held-stands = subst (λ (m : ℕ). T (stands m (getD t k nan))) (zero-add k) (stands-at 0 t k (w .standing) inside)
 
-  -- ---- the place is empty
+  -- ---- the place is empty, and then holds x
 
-  pub stored-long : length (set t k x) ≡ 4096
-  stored-long = length-set t k x ∙ w .long
+  module _ (v : List Float) (is : v ≡ set t k x) where
+    pub stored-long : length v ≡ 4096
+    stored-long = ap length is ∙ length-set t k x ∙ w .long
 
-  pub stored-standing : T (standFrom 0 (set t k x))
-  stored-standing = stands-set 0 t k x (w .standing) (subst (λ (m : ℕ). T (stands m x)) (sym (w .there) ∙ sym (zero-add k)) (stands-there x (w .fitting) (w .finite) nonzero))
+    pub stored-standing : T (standFrom 0 v)
+    stored-standing =
+        subst (λ (a : List Float). T (standFrom 0 a)) (sym is)
+        (stands-set 0 t k x (w .standing) (subst (λ (m : ℕ). T (stands m x)) (sym (w .there) ∙ sym (zero-add k)) (stands-there x (w .fitting) (w .finite) nonzero)))
 
-  pub stored-bounded : sumOf size (set t k x) ≤ n * pieceLimit
-  stored-bounded = omega (arith, sum-set size t k x inside)
+    pub stored-bounded : sumOf size v ≤ n * pieceLimit
+    stored-bounded = subst (λ (a : List Float). sumOf size a ≤ n * pieceLimit) (sym is) (omega (arith, sum-set size t k x inside))
 
-  module _ (free : eq (getD t k nan) (ofBits binary64 0) ≡ true) where
-    pub stored-total : totalOf (set t k x) ≡ totalOf t +ℤ floatUnits x
-    stored-total = sym (+ℤ-idr (totalOf (set t k x))) ∙ ap (λ (v : ℤ). totalOf (set t k x) +ℤ v) (sym (zero-test (getD t k nan) free)) ∙ total-set t k x inside
+    module _ (free : eq (getD t k nan) (ofBits binary64 0) ≡ true) where
+      pub stored-total : totalOf v ≡ totalOf t +ℤ floatUnits x
+      stored-total =
+          ap totalOf is
+          ∙ sym (+ℤ-idr (totalOf (set t k x)))
+          ∙ ap (λ (a : ℤ). totalOf (set t k x) +ℤ a) (sym (zero-test (getD t k nan) free))
+          ∙ total-set t k x inside
 
-    pub stored-enters : Enters x t (set t k x)
-    unfolding held
-    stored-enters =
-        let e : getD t k nan ≡ empty = standing-empty k (getD t k nan) held-stands (zero-test (getD t k nan) free) in
-        subst (λ (m : ℕ). Enters x t (set t m x)) (sym (w .there)) (stored nonzero (subst (λ (m : ℕ). getD t m nan ≡ empty) (w .there) e))
+      pub stored-enters : Enters x t v
+      unfolding held
+      stored-enters =
+          let e : getD t k nan ≡ empty = standing-empty k (getD t k nan) held-stands (zero-test (getD t k nan) free) in
+          subst (λ (a : List Float). Enters x t a) (sym is) (subst (λ (m : ℕ). Enters x t (set t m x)) (sym (w .there)) (stored nonzero (subst (λ (m : ℕ). getD t m nan ≡ empty) (w .there) e)))
 
-  -- ---- the place is occupied
-
-  pub paired-long : length (set t k (ofBits binary64 0)) ≡ 4096
-  paired-long = length-set t k (ofBits binary64 0) ∙ w .long
-
-  pub paired-standing : T (standFrom 0 (set t k (ofBits binary64 0)))
-  unfolding empty
-  paired-standing = stands-set 0 t k (ofBits binary64 0) (w .standing) (empty-stands (0 + k))
-
-  pub paired-bounded : sumOf size (set t k (ofBits binary64 0)) ≤ n * pieceLimit
-  paired-bounded = omega (arith, sum-set size t k (ofBits binary64 0) inside, size-none)
+  -- ---- the place is occupied, and then empty
 
   module _ (occupied : eq (getD t k nan) (ofBits binary64 0) ≡ false) where
     occupies : floatUnits (getD t k nan) ≢ pos 0
@@ -107,30 +107,45 @@ module _ {t : List Float} {n : ℕ} {x : Float} {k : ℕ} (w : Turn t n x k) whe
     pub sum-fine : size x + size (getD t k nan) < rangeLimit
     sum-fine = in-range n (size x + size (getD t k nan)) (w .few) (omega (arith, sum-set size t k (ofBits binary64 0) inside, size-none))
 
-    pub fewer : sumOf taken (set t k (ofBits binary64 0)) < sumOf taken t
-    fewer = omega (arith, sum-set taken t k (ofBits binary64 0) inside, taken-none, taken-one (getD t k nan) occupied)
+  module _ (v : List Float) (is : v ≡ set t k (ofBits binary64 0)) where
+    pub paired-long : length v ≡ 4096
+    paired-long = ap length is ∙ length-set t k (ofBits binary64 0) ∙ w .long
 
-    module _ (r : Float) (is : r ≡ add binary64 x (getD t k nan)) (exact : floatValue r ≡ Some (floatUnits x +ℤ floatUnits (getD t k nan))) where
-      value : floatUnits r ≡ floatUnits x +ℤ floatUnits (getD t k nan)
-      value = number-is r (floatUnits x +ℤ floatUnits (getD t k nan)) exact
+    pub paired-standing : T (standFrom 0 v)
+    unfolding empty
+    paired-standing = subst (λ (a : List Float). T (standFrom 0 a)) (sym is) (stands-set 0 t k (ofBits binary64 0) (w .standing) (empty-stands (0 + k)))
 
-      pub sum-bounded : size r + sumOf size (set t k (ofBits binary64 0)) ≤ n * pieceLimit
-      sum-bounded =
-          let s : size r ≤ size x + size (getD t k nan) = subst (λ (v : ℤ). natAbs v ≤ size x + size (getD t k nan)) (sym value) (triangle (floatUnits x) (floatUnits (getD t k nan))) in
-          omega (arith, sum-set size t k (ofBits binary64 0) inside, size-none)
+    less-size : sumOf size v + size (getD t k nan) ≡ sumOf size t
+    less-size = ap (λ (a : List Float). sumOf size a + size (getD t k nan)) is ∙ sum-set size t k (ofBits binary64 0) inside ∙ ap (λ (m : ℕ). sumOf size t + m) size-none ∙ add-zero (sumOf size t)
 
-      pub sum-total : totalOf (set t k (ofBits binary64 0)) +ℤ floatUnits r ≡ totalOf t +ℤ floatUnits x
-      unfolding empty
-      sum-total = moved (totalOf (set t k (ofBits binary64 0))) (totalOf t) (floatUnits r) (floatUnits x) (floatUnits (getD t k nan)) (floatUnits (ofBits binary64 0)) value empty-value (total-set t k (ofBits binary64 0) inside)
-        where
-          moved : (a b r x y z : ℤ) → r ≡ x +ℤ y → z ≡ pos 0 → a +ℤ y ≡ b +ℤ z → a +ℤ r ≡ b +ℤ x
-          moved a b r x y z e f g = omega (arith, ints)
+    pub paired-bounded : sumOf size v ≤ n * pieceLimit
+    paired-bounded = omega (arith, less-size)
 
-      pub sum-enters : (u : List Float) → Enters r (set t k (ofBits binary64 0)) u → Enters x t u
-      unfolding empty
-      sum-enters u e =
-          paired nonzero (subst (λ (m : ℕ). getD t m nan ≢ empty) (w .there) (λ q. occupies (ap floatUnits q ∙ empty-value)))
-          (subst (λ (m : ℕ). Enters (add binary64 x (getD t m nan)) (set t m empty) u) (w .there) (subst (λ (y : Float). Enters y (set t k (ofBits binary64 0)) u) is e))
+    module _ (occupied : eq (getD t k nan) (ofBits binary64 0) ≡ false) where
+      pub fewer : sumOf taken v < sumOf taken t
+      fewer = subst (λ (a : List Float). sumOf taken a < sumOf taken t) (sym is) (omega (arith, sum-set taken t k (ofBits binary64 0) inside, taken-none, taken-one (getD t k nan) occupied))
+
+      module _ (r : Float) (sum : r ≡ add binary64 x (getD t k nan)) (exact : floatValue r ≡ Some (floatUnits x +ℤ floatUnits (getD t k nan))) where
+        value : floatUnits r ≡ floatUnits x +ℤ floatUnits (getD t k nan)
+        value = number-is r (floatUnits x +ℤ floatUnits (getD t k nan)) exact
+
+        pub sum-bounded : size r + sumOf size v ≤ n * pieceLimit
+        sum-bounded =
+            let s : size r ≤ size x + size (getD t k nan) = subst (λ (a : ℤ). natAbs a ≤ size x + size (getD t k nan)) (sym value) (triangle (floatUnits x) (floatUnits (getD t k nan))) in
+            omega (arith, less-size)
+
+        pub sum-total : totalOf v +ℤ floatUnits r ≡ totalOf t +ℤ floatUnits x
+        unfolding empty
+        sum-total =
+            carried (totalOf v) (totalOf t) (floatUnits r) (floatUnits x) (floatUnits (getD t k nan)) (floatUnits (ofBits binary64 0)) value empty-value
+            (ap (λ (a : List Float). totalOf a +ℤ floatUnits (getD t k nan)) is ∙ total-set t k (ofBits binary64 0) inside)
+
+        pub sum-enters : (u : List Float) → Enters r v u → Enters x t u
+        unfolding empty
+        sum-enters u e =
+            paired nonzero (subst (λ (m : ℕ). getD t m nan ≢ empty) (w .there) (λ q. occupies occupied (ap floatUnits q ∙ empty-value)))
+            (subst (λ (m : ℕ). Enters (add binary64 x (getD t m nan)) (set t m empty) u) (w .there)
+            (subst (λ (a : List Float). Enters (add binary64 x (getD t k nan)) a u) is (subst (λ (y : Float). Enters y v u) sum e)))
 
 -- ---- the whole way
 

@@ -9,3 +9,4 @@ pub mod Tables
 pub mod Entering
 pub mod Columns
 pub mod ColumnSummands
+pub mod ColumnReads

@@ -1,6 +1,6 @@
 //! A piece as a binary64 number, a binary64 number as a summand, its place by exponent field and genus, and the exact sum of two numbers of one place.
 ghost use mathlib.Core.Path.{_≡_};
-ghost use Prim.Native.Nat.{_+_, _*_, _^_, _<_, _≤_};
+ghost use Prim.Native.Nat.{_+_, _-_, _*_, _^_, _<_, _≤_};
 ghost use lib.Dec.{T};
 ghost use lib.IntN.{_+ℤ_};
 ghost use lib.Ieee.{binary64, add, toBits};
@@ -8,7 +8,7 @@ ghost use Rattle.std.specs.declared.option.Option.the-variants.{Some};
 ghost use Rattle.numbers.specs.Patterns.{fieldOf};
 ghost use Rattle.numbers.specs.Products.{pieceUnits};
 ghost use Rattle.numbers.specs.Units.{floatValue};
-ghost use Rattle.condensers.specs.Fields.{significandOf, heightOf};
+ghost use Rattle.condensers.specs.Fields.{leading, significandOf, heightOf};
 ghost use Rattle.condensers.specs.Handed.{limited};
 ghost use Rattle.condensers.specs.Pairing.{floatUnits, size, placeOf, rangeLimit, summandOf};
 use crate::units::rank_of;
@@ -72,6 +72,21 @@ pub(crate) fn sum_of_pair(a: f64, b: f64) -> f64
     a + b
 }
 
+/// The bit in front of the fraction, by the exponent field.
+fn leading_of(field: u32) -> u64
+    ensures answer { λ r. ⌜ r ≡ leading field ⌝ }
+    ensures limits { λ r. ⌜ r ≤ 2 ^ 52 ⌝ }
+{
+    if field == 0 { 0 } else { FIELD }
+}
+
+/// How far the lowest bit of a number lies above the unit, by its exponent field: fields 0 and 1 weigh the same.
+fn height_of(field: u32) -> u32
+    ensures answer { λ r. ⌜ r ≡ field - 1 ⌝ }
+{
+    if field == 0 { 0 } else { field - 1 }
+}
+
 /// The summand of what stands at a place: its sign, its significand and the exponent of its lowest bit.
 pub(crate) fn summand_of(entry: f64) -> Summand
     requires finite { ⌜ fieldOf (toBits binary64 entry) < 2047 ⌝ }
@@ -79,12 +94,10 @@ pub(crate) fn summand_of(entry: f64) -> Summand
     ensures answer { λ r. ⌜ r ≡ summandOf entry ⌝ }
 {
     let bits = entry.to_bits();
-    let negative = bits >= SIGN;
     let field = (bits / FIELD % 2048) as u32;
-    let fraction = bits % FIELD;
-    if field == 0 {
-        summand_at(negative, fraction, 0)
-    } else {
-        summand_at(negative, FIELD + fraction, field - 1)
-    }
+    summand_at(
+        bits >= SIGN,
+        leading_of(field) + bits % FIELD,
+        height_of(field),
+    )
 }

@@ -1,19 +1,20 @@
 //! The column table: a condenser of 64 signed columns, column j weighing 2^(32 j) units, that takes pieces in parts of 32 bits without carries.
 ghost use mathlib.Core.Path.{_≡_};
-ghost use Prim.Native.Nat.{ℕ, _+_, _*_, _^_, _<_, _≤_};
+ghost use Prim.Native.Nat.{ℕ, _+_, _*_, _%_, _^_, _<_, _≤_};
 ghost use lib.IntN.{pos, _+ℤ_, natAbs};
 ghost use lib.ListN.{length, getD, set};
-ghost use Rattle.numbers.specs.Units.{signed};
-ghost use Rattle.condensers.specs.Meaning.{PutAnswer, PutAfter};
+ghost use Rattle.std.specs.Options.{Cases as BySome};
+ghost use Rattle.numbers.specs.Units.{rank, signed};
+ghost use Rattle.numbers.specs.Products.{pieceUnits};
+ghost use Rattle.condensers.specs.Meaning.{PutAnswer, PutAfter, StandsAt};
 ghost use Rattle.condensers.specs.Columns.{columnTotal, summandsFrom, emptyColumns, Gains, PutGains};
 use crate::condenser::Condenser;
+use crate::refusing::full;
 use crate::units::rank_of;
 use crate::units::summand_at;
 use numbers::piece::Piece;
 use numbers::piece::Summand;
-use numbers::refusal::Reason;
 use numbers::refusal::Refusal;
-use numbers::refusal::Side;
 
 const COLUMNS: usize = 64;
 
@@ -33,6 +34,27 @@ pub struct ColumnTable {
     ghost few: { count ≤ 67108864 },
 }
 
+/// The columns of a table with nothing in it.
+fn no_columns() -> [i64; COLUMNS]
+    ensures total { λ r. ⌜ columnTotal r ≡ pos 0 ⌝ }
+    ensures after { λ r. ⌜ r ≡ emptyColumns ⌝ }
+    ensures limits { λ r. ⌜ length r ≡ 64 ⌝ ∗ ⌜ ((j : ℕ) → natAbs (getD r j (pos 0)) ≤ 0) ⌝ }
+{
+    [0; COLUMNS]
+}
+
+/// The column of a third part, if there is one so high.
+fn third_column(first: usize) -> Option<usize>
+    requires { ⌜ first ≤ 62 ⌝ }
+    ensures answer { λ r. ⌜ BySome r (first ≡ 62) (λ c. (c ≡ first + 2) × (c < 64)) ⌝ }
+{
+    if first + 2 < COLUMNS {
+        Some(first + 2)
+    } else {
+        None
+    }
+}
+
 impl ColumnTable {
     /// A table with nothing in it.
     pub fn new() -> ColumnTable
@@ -41,7 +63,7 @@ impl ColumnTable {
         ensures after { λ r. ⌜ r .columns ≡ emptyColumns ⌝ }
     {
         ColumnTable {
-            columns: [0; COLUMNS],
+            columns: no_columns(),
             count: 0,
         }
     }
@@ -60,7 +82,7 @@ impl ColumnTable {
         }
     }
 
-    /// Adds the parts of ±significand × 2^rank units. They lie in at most three columns, and the third part is nothing where there is no third column.
+    /// Adds the parts of ±significand × 2^rank units. They lie in at most three columns; where there is no third column, the third part is nothing.
     fn add(&mut self, negative: bool, significand: u64, rank: u32)
         requires short { ⌜ significand ≤ 2 ^ 52 ⌝ }
         requires inside { ⌜ rank ≤ 1990 ⌝ }
@@ -72,10 +94,62 @@ impl ColumnTable {
         let size = (significand as u128) << (rank % 32);
         self.add_part(first, negative, (size % WIDE_PART) as u32);
         self.add_part(first + 1, negative, (size / WIDE_PART % WIDE_PART) as u32);
-        let third = (size / WIDE_PART / WIDE_PART) as u32;
-        if third != 0 {
-            self.add_part(first + 2, negative, third);
+        if let Some(column) = third_column(first) {
+            self.add_part(column, negative, (size / WIDE_PART / WIDE_PART) as u32);
         }
+    }
+
+    /// Takes a piece in, part by part.
+    fn insert(&mut self, piece: Piece)
+        requires { ⌜ now self .count < 67108864 ⌝ }
+        ensures total { λ _. ⌜ columnTotal (now (self .exit) .columns) ≡ columnTotal (now (self .entry) .columns) +ℤ pieceUnits piece ⌝ }
+        ensures count { λ _. ⌜ now (self .exit) .count ≡ now (self .entry) .count + 1 ⌝ }
+        ensures kept { λ _. ⌜ Gains (piece .negative) (piece .significand * 2 ^ rank (piece .exponent)) (now (self .entry) .columns) (now (self .exit) .columns) ⌝ }
+    {
+        self.count += 1;
+        self.add(piece.negative, piece.significand, rank_of(piece));
+    }
+
+    fn part_count(&self) -> u64
+        ensures answer { λ r. ⌜ r ≡ length (summandsFrom 0 (now (self .entry) .columns)) ⌝ }
+    {
+        2 * COLUMNS as u64
+    }
+
+    /// The low 32 bits of the size of column k / 2.
+    fn low_summand(&self, k: u64) -> Summand
+        requires inside { ⌜ k < 128 ⌝ }
+        requires even { ⌜ k % 2 ≡ 0 ⌝ }
+        ensures answer { λ r. ⌜ StandsAt (summandsFrom 0 (now (self .entry) .columns)) k r ⌝ }
+    {
+        let column = self.columns[(k / 2) as usize];
+        summand_at(
+            column < 0,
+            column.unsigned_abs() % PART,
+            32 * (k / 2) as u32,
+        )
+    }
+
+    /// The rest of the size of column k / 2, at 2^32 times its weight.
+    fn high_summand(&self, k: u64) -> Summand
+        requires inside { ⌜ k < 128 ⌝ }
+        requires odd { ⌜ k % 2 ≡ 1 ⌝ }
+        ensures answer { λ r. ⌜ StandsAt (summandsFrom 0 (now (self .entry) .columns)) k r ⌝ }
+    {
+        let column = self.columns[(k / 2) as usize];
+        summand_at(
+            column < 0,
+            column.unsigned_abs() / PART,
+            32 * (k / 2) as u32 + 32,
+        )
+    }
+
+    /// The zero summand, past the last column.
+    fn no_summand(&self, k: u64) -> Summand
+        requires { ⌜ 128 ≤ k ⌝ }
+        ensures answer { λ r. ⌜ StandsAt (summandsFrom 0 (now (self .entry) .columns)) k r ⌝ }
+    {
+        summand_at(false, 0, 0)
     }
 }
 
@@ -93,7 +167,7 @@ pub impl Condenser for ColumnTable as ColumnCondenser {
         ensures count { λ _. ⌜ now (self .exit) .count ≡ 0 ⌝ }
         ensures after { λ _. ⌜ now (self .exit) .columns ≡ emptyColumns ⌝ }
     {
-        self.columns = [0; COLUMNS];
+        self.columns = no_columns();
         self.count = 0;
     }
 
@@ -103,14 +177,9 @@ pub impl Condenser for ColumnTable as ColumnCondenser {
         ensures kept { λ r. ⌜ PutGains piece (now (self .entry) .columns) (now (self .exit) .columns) r ⌝ }
     {
         if self.count == CAPACITY {
-            return Err(Refusal {
-                reason: Reason::Full,
-                place: 0,
-                side: Side::Neither,
-            });
+            return Err(full());
         }
-        self.count += 1;
-        self.add(piece.negative, piece.significand, rank_of(piece));
+        self.insert(piece);
         Ok(())
     }
 
@@ -123,20 +192,16 @@ pub impl Condenser for ColumnTable as ColumnCondenser {
     }
 
     fn summand_count(&self) -> u64 {
-        2 * COLUMNS as u64
+        self.part_count()
     }
 
     fn summand(&self, k: u64) -> Summand {
         if k >= 2 * COLUMNS as u64 {
-            return summand_at(false, 0, 0);
-        }
-        let column = self.columns[(k / 2) as usize];
-        let size = column.unsigned_abs();
-        let rank = 32 * (k / 2) as u32;
-        if k % 2 == 0 {
-            summand_at(column < 0, size % PART, rank)
+            self.no_summand(k)
+        } else if k % 2 == 0 {
+            self.low_summand(k)
         } else {
-            summand_at(column < 0, size / PART, rank + 32)
+            self.high_summand(k)
         }
     }
 }

@@ -4,22 +4,22 @@ ghost use mathlib.Core.List.{map};
 ghost use Prim.Native.Nat.{_+_, _*_, _<_, _≤_};
 ghost use lib.Dec.{T};
 ghost use lib.IntN.{pos, _+ℤ_};
-ghost use lib.ListN.{length};
+ghost use lib.ListN.{length, set};
 ghost use lib.Ieee.{binary64, toBits};
 ghost use Rattle.numbers.specs.Patterns.{fieldOf};
-ghost use Rattle.condensers.specs.Meaning.{PutAnswer, PutAfter};
-ghost use Rattle.condensers.specs.Pairing.{floatUnits, size, totalOf, sumOf, standFrom, pieceLimit, summandOf, emptyTable, Enters, PutEnters};
+ghost use Rattle.numbers.specs.Products.{pieceUnits};
+ghost use Rattle.condensers.specs.Meaning.{PutAnswer, PutAfter, StandsAt};
+ghost use Rattle.condensers.specs.Pairing.{floatUnits, size, totalOf, sumOf, standFrom, pieceLimit, summandOf, emptyTable, Enters, PieceEnters, PutEnters};
 use crate::binary64::number_of;
 use crate::binary64::place_of;
 use crate::binary64::sum_of_pair;
 use crate::binary64::summand_of;
 use crate::condenser::Condenser;
+use crate::refusing::full;
 use crate::units::summand_at;
 use numbers::piece::Piece;
 use numbers::piece::Summand;
-use numbers::refusal::Reason;
 use numbers::refusal::Refusal;
-use numbers::refusal::Side;
 
 const PLACES: usize = 4096;
 
@@ -36,6 +36,23 @@ pub struct PairingTable {
     ghost few: { count ≤ 67108864 },
 }
 
+/// The places of a table with nothing in it.
+fn no_entries() -> [f64; PLACES]
+    ensures total { λ r. ⌜ totalOf r ≡ pos 0 ⌝ }
+    ensures after { λ r. ⌜ r ≡ emptyTable ⌝ }
+    ensures limits { λ r. ⌜ length r ≡ 4096 ⌝ ∗ ⌜ T (standFrom 0 r) ⌝ ∗ ⌜ sumOf size r ≤ 0 ⌝ }
+{
+    [0.0; PLACES]
+}
+
+/// Puts a number, or +0 to empty it, at a place.
+fn store(entries: &mut [f64; PLACES], place: usize, number: f64)
+    requires { ⌜ place < length (now entries) ⌝ }
+    ensures after { λ _. ⌜ now (entries .exit) ≡ set (now (entries .entry)) place number ⌝ }
+{
+    entries[place] = number;
+}
+
 impl PairingTable {
     /// A table with nothing in it.
     pub fn new() -> PairingTable
@@ -44,7 +61,7 @@ impl PairingTable {
         ensures after { λ r. ⌜ r .entries ≡ emptyTable ⌝ }
     {
         PairingTable {
-            entries: [0.0; PLACES],
+            entries: no_entries(),
             count: 0,
         }
     }
@@ -55,19 +72,52 @@ impl PairingTable {
         requires within { ⌜ size number + sumOf size (now self .entries) ≤ now self .count * pieceLimit ⌝ }
         ensures total { λ _. ⌜ totalOf (now (self .exit) .entries) ≡ totalOf (now (self .entry) .entries) +ℤ floatUnits number ⌝ }
         ensures count { λ _. ⌜ now (self .exit) .count ≡ now (self .entry) .count ⌝ }
-        ensures after { λ _. ⌜ Enters number (now (self .entry) .entries) (now (self .exit) .entries) ⌝ }
+        ensures kept { λ _. ⌜ Enters number (now (self .entry) .entries) (now (self .exit) .entries) ⌝ }
     {
         let mut moving = number;
         while moving != 0.0 {
             let place = place_of(moving);
             let held = self.entries[place];
             if held == 0.0 {
-                self.entries[place] = moving;
+                store(&mut self.entries, place, moving);
                 return;
             }
-            self.entries[place] = 0.0;
+            store(&mut self.entries, place, 0.0);
             moving = sum_of_pair(moving, held);
         }
+    }
+
+    /// Takes a piece in as the number of its value.
+    fn insert(&mut self, piece: Piece)
+        requires { ⌜ now self .count < 67108864 ⌝ }
+        ensures total { λ _. ⌜ totalOf (now (self .exit) .entries) ≡ totalOf (now (self .entry) .entries) +ℤ pieceUnits piece ⌝ }
+        ensures count { λ _. ⌜ now (self .exit) .count ≡ now (self .entry) .count + 1 ⌝ }
+        ensures kept { λ _. ⌜ PieceEnters piece (now (self .entry) .entries) (now (self .exit) .entries) ⌝ }
+    {
+        self.count += 1;
+        self.enter(number_of(piece));
+    }
+
+    fn entry_count(&self) -> u64
+        ensures answer { λ r. ⌜ r ≡ length (map summandOf (now (self .entry) .entries)) ⌝ }
+    {
+        PLACES as u64
+    }
+
+    /// The summand of the place `k`.
+    fn entry_summand(&self, k: u64) -> Summand
+        requires { ⌜ k < 4096 ⌝ }
+        ensures answer { λ r. ⌜ StandsAt (map summandOf (now (self .entry) .entries)) k r ⌝ }
+    {
+        summand_of(self.entries[k as usize])
+    }
+
+    /// The zero summand, past the last place.
+    fn no_summand(&self, k: u64) -> Summand
+        requires { ⌜ 4096 ≤ k ⌝ }
+        ensures answer { λ r. ⌜ StandsAt (map summandOf (now (self .entry) .entries)) k r ⌝ }
+    {
+        summand_at(false, 0, 0)
     }
 }
 
@@ -85,7 +135,7 @@ pub impl Condenser for PairingTable as PairingCondenser {
         ensures count { λ _. ⌜ now (self .exit) .count ≡ 0 ⌝ }
         ensures after { λ _. ⌜ now (self .exit) .entries ≡ emptyTable ⌝ }
     {
-        self.entries = [0.0; PLACES];
+        self.entries = no_entries();
         self.count = 0;
     }
 
@@ -95,14 +145,9 @@ pub impl Condenser for PairingTable as PairingCondenser {
         ensures kept { λ r. ⌜ PutEnters piece (now (self .entry) .entries) (now (self .exit) .entries) r ⌝ }
     {
         if self.count == CAPACITY {
-            return Err(Refusal {
-                reason: Reason::Full,
-                place: 0,
-                side: Side::Neither,
-            });
+            return Err(full());
         }
-        self.count += 1;
-        self.enter(number_of(piece));
+        self.insert(piece);
         Ok(())
     }
 
@@ -115,13 +160,14 @@ pub impl Condenser for PairingTable as PairingCondenser {
     }
 
     fn summand_count(&self) -> u64 {
-        PLACES as u64
+        self.entry_count()
     }
 
     fn summand(&self, k: u64) -> Summand {
-        if k >= PLACES as u64 {
-            return summand_at(false, 0, 0);
+        if k < PLACES as u64 {
+            self.entry_summand(k)
+        } else {
+            self.no_summand(k)
         }
-        summand_of(self.entries[k as usize])
     }
 }

@@ -9,7 +9,7 @@ use lib.ListN.{length, getD, set}
 use lib.Seq.{getD-set-other}
 use Rattle.numbers.specs.Units.{signed}
 use Rattle.numbers.proofs.Scale.{signed-zero}
-use Rattle.condensers.proofs.Columns.{two-gains, three-gains, third-fits, third-inside, code-parts}
+use Rattle.condensers.proofs.Columns.{two-gains, three-gains, Added, third-fits, third-nothing, code-parts}
 use Rattle.condensers.proofs.column_table.ColumnTable.add.Needs as need
 
 -- a column other than the one that was changed keeps its room
@@ -27,45 +27,38 @@ add-part-requires-2 c κs =
       within = room _ (c .args .self .now .columns) q (q + 1) _ _ (c .args .self .now .count) (c .add-part .ensures .after) (λ e. omega arith) (c .pre .within (q + 1)) (c .add-part .ensures .count);
     }
 
-pub cast-third : need.cast-third
-cast-third c = omega (arith, third-fits (c .args .significand) (c .args .rank) (c .pre .short))
+pub cast-size-in-Some : need.cast-size-in-Some
+cast-size-in-Some c = omega (arith, third-fits (c .args .significand) (c .args .rank) (c .pre .short))
 
-pub add-part-requires-then-third-ne0 : need.add-part-requires-then-third-ne0
-add-part-requires-then-third-ne0 c κs =
-    let q = c .args .rank / 32 in
-    record {
-      inside = third-inside (c .args .significand) (c .args .rank) (c .pre .short) (c .pre .inside) (c .if-third-ne0 .taken);
-      within = room _ (c .add-part .last .self .columns) (q + 1) (q + 2) _ _ (c .add-part .last .self .count) (c .add-part-2 .ensures .after) (λ e. omega arith)
-          (room _ (c .args .self .now .columns) q (q + 2) _ _ (c .args .self .now .count) (c .add-part .ensures .after) (λ e. omega arith) (c .pre .within (q + 2)) (c .add-part .ensures .count))
-          (c .add-part-2 .ensures .count);
-    }
-
-pub returns-then-third-ne0 : need.returns-then-third-ne0
-returns-then-third-ne0 c =
+pub returns-in-Some : need.returns-in-Some
+returns-in-Some c =
     let P = c .args .significand in
     let R = c .args .rank in
     let s = c .args .negative in
     let cs = c .args .self .now .columns in
     let q = R / 32 in
-    let inside : q + 2 < length cs = subst (λ (n : ℕ). q + 2 < n) (sym (c .args .self .now .long)) (third-inside P R (c .pre .short) (c .pre .inside) (c .if-third-ne0 .taken)) in
+    let third = c .in-Some .ensures tt .answer in
+    let inside : q + 2 < length cs = subst (λ (n : ℕ). q + 2 < n) (sym (c .args .self .now .long)) (omega (arith, third)) in
+    let added = subst (λ (k : ℕ). Added (c .add-part-2 .last .self .columns) k (signed s (P * 2 ^ (R % 32) % 2 ^ 128 / 2 ^ 32 / 2 ^ 32)) (c .add-part-in-Some .last .self .columns)) (third .0) (c .add-part-in-Some .ensures .after) in
     record {
       kept = λ j l.
-          three-gains cs _ _ _ q _ _ _ (c .add-part .ensures .after) (c .add-part-2 .ensures .after) (c .add-part-then-third-ne0 .ensures .after) inside j
+          three-gains cs _ _ _ q _ _ _ (c .add-part .ensures .after) (c .add-part-2 .ensures .after) added inside j
           ∙ ap (λ (v : ℤ). getD cs j (pos 0) +ℤ v) (code-parts P R (c .pre .short) s j);
-      count = c .add-part-then-third-ne0 .ensures .count ∙ c .add-part-2 .ensures .count ∙ c .add-part .ensures .count;
+      count = c .add-part-in-Some .ensures .count ∙ c .add-part-2 .ensures .count ∙ c .add-part .ensures .count;
     }
 
-pub returns-else-third-ne0 : need.returns-else-third-ne0
-returns-else-third-ne0 c =
+pub returns-in-rest : need.returns-in-rest
+returns-in-rest c =
     let P = c .args .significand in
     let R = c .args .rank in
     let s = c .args .negative in
     let cs = c .args .self .now .columns in
     let q = R / 32 in
     let inside : q + 1 < length cs = subst (λ (n : ℕ). q + 1 < n) (sym (c .args .self .now .long)) (omega (arith, c .pre .inside)) in
+    let nothing = third-nothing P R (c .pre .short) (c .pre .inside) (c .in-rest .ensures tt .answer) in
     record {
       kept = λ j l.
-          two-gains cs _ _ q _ _ (signed s (P * 2 ^ (R % 32) % 2 ^ 128 / 2 ^ 32 / 2 ^ 32)) (c .add-part .ensures .after) (c .add-part-2 .ensures .after) (ap (signed s) (c .if-third-ne0 .left) ∙ signed-zero s) inside j
+          two-gains cs _ _ q _ _ (signed s (P * 2 ^ (R % 32) % 2 ^ 128 / 2 ^ 32 / 2 ^ 32)) (c .add-part .ensures .after) (c .add-part-2 .ensures .after) (ap (signed s) nothing ∙ signed-zero s) inside j
           ∙ ap (λ (v : ℤ). getD cs j (pos 0) +ℤ v) (code-parts P R (c .pre .short) s j);
       count = c .add-part-2 .ensures .count ∙ c .add-part .ensures .count;
     }

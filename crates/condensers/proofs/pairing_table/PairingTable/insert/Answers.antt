@@ -14,7 +14,7 @@ use Rattle.numbers.proofs.Scale.{rank-is}
 use Rattle.numbers.proofs.Window.{size-units}
 use Rattle.condensers.specs.Pairing.{size, pieceLimit, totalOf}
 use Rattle.condensers.proofs.Patterns.{number-is}
-use Rattle.condensers.proofs.pairing_table.PairingCondenser.put.Needs as need
+use Rattle.condensers.proofs.pairing_table.PairingTable.insert.Needs as need
 
 -- 2^52 × 2^916 is 2^968
 piece-size : (p : Piece) → natAbs (pieceUnits p) ≤ pieceLimit
@@ -33,7 +33,7 @@ pub returns : need.returns
 returns c =
     let t = c .args .self .now in
     record {
-      answer = omega (arith, t .few);
-      after = (c .enter .ensures .total ∙ ap (λ (v : ℤ). totalOf (t .entries) +ℤ v) (number-is (c .number-of .result) _ (c .number-of .ensures .value)), c .enter .ensures .count);
-      kept = (c .number-of .result, subst T (sym (c .number-of .ok)) tt, c .number-of .ensures .value, c .enter .ensures .after);
+      total = c .enter .ensures .total ∙ ap (λ (v : ℤ). totalOf (t .entries) +ℤ v) (number-is (c .number-of .result) _ (c .number-of .ensures .value));
+      count = c .enter .ensures .count;
+      kept = (c .number-of .result, subst T (sym (c .number-of .ok)) tt, c .number-of .ensures .value, c .enter .ensures .kept);
     }

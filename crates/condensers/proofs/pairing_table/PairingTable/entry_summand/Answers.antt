@@ -9,16 +9,13 @@ use lib.Ieee.{nan}
 use Rattle.std.proofs.shelf.Lists.{getD-map}
 use Rattle.condensers.specs.declared.pairing_table.PairingTable.{PairingTable}
 use Rattle.condensers.specs.Pairing.{summandOf, stands, size, pieceLimit}
-use Rattle.condensers.proofs.Handed.{stands-within, stands-past}
+use Rattle.condensers.proofs.Handed.{stands-within}
 use Rattle.condensers.proofs.Standing.{standing-field}
 use Rattle.condensers.proofs.Tables.{stands-at, sum-at, standing-limited}
-use Rattle.condensers.proofs.pairing_table.PairingCondenser.summand.Needs as need
+use Rattle.condensers.proofs.pairing_table.PairingTable.entry_summand.Needs as need
 
 as-many : (t : PairingTable) → length (map summandOf (t .entries)) ≡ 4096
 as-many t = length-map (t .entries) summandOf ∙ t .long
-
-pub returns-then-k : need.returns-then-k
-returns-then-k c = record { answer = stands-past _ (c .args .k) (c .summand-at .result) (subst (λ (n : ℕ). n ≤ c .args .k) (sym (as-many (c .args .self .now))) (c .if-k .taken)) (c .summand-at .ensures .answer) }
 
 at-place : (t : PairingTable) (k : ℕ) → k < 4096 → T (stands k (getD (t .entries) k nan))
 at-place t k l = subst (λ (m : ℕ). T (stands m (getD (t .entries) k nan))) (zero-add k) (stands-at 0 (t .entries) k (t .standing) (subst (λ (n : ℕ). k < n) (sym (t .long)) l))
@@ -30,8 +27,8 @@ pub summand-of-requires : need.summand-of-requires
 summand-of-requires c κs =
     let t = c .args .self .now in
     let k = c .args .k in
-    let s = at-place t k (c .if-k .left) in
-    record { finite = standing-field k (getD (t .entries) k nan) s; limits = standing-limited k (getD (t .entries) k nan) s (at-most t k (c .if-k .left)) }
+    let s = at-place t k (c .pre) in
+    record { finite = standing-field k (getD (t .entries) k nan) s; limits = standing-limited k (getD (t .entries) k nan) s (at-most t k (c .pre)) }
 
 pub returns : need.returns
 returns c =
@@ -39,6 +36,6 @@ returns c =
     let k = c .args .k in
     let r = c .summand-of .result in
     record {
-      answer = stands-within _ k r (subst (λ (n : ℕ). k < n) (sym (as-many t)) (c .if-k .left))
-          (c .summand-of .ensures .answer ∙ sym (getD-map summandOf (t .entries) k nan r (subst (λ (n : ℕ). k < n) (sym (t .long)) (c .if-k .left))));
+      answer = stands-within _ k r (subst (λ (n : ℕ). k < n) (sym (as-many t)) (c .pre))
+          (c .summand-of .ensures .answer ∙ sym (getD-map summandOf (t .entries) k nan r (subst (λ (n : ℕ). k < n) (sym (t .long)) (c .pre))));
     }
