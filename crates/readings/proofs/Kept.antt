@@ -43,13 +43,13 @@ field-small : (f : Format) (n : ℕ) → size n ≤ 2112 → dropped f n * hid f
 field-small f n h = le-trans (mul-le-mul-right (hid f) (le-trans (le-of-eq (dropped-is f n)) (omega arith))) (mul-le-mul-left 2112 (hid-le f))
 
 -- what the code found: d dropped digits, the kept number, and the carry
-pub record Counted (f : Format) (m : Mode) (n d p kept c : ℕ) : Type 0 where
+pub record Counted (f : Format) (m : Mode) (n d kept c : ℕ) : Type 0 where
   pub fits : kept + c < 2 ^ 64
-  pub room : d * 2 ^ (p - 1) % 2 ^ 64 + (kept + c) < 2 ^ 64
-  pub pattern : d * 2 ^ (p - 1) % 2 ^ 64 + (kept + c) ≡ sizePattern f m n
+  pub room : d * hid f + (kept + c) < 2 ^ 64
+  pub pattern : d * hid f + (kept + c) ≡ sizePattern f m n
 
 pub counted : (f : Format) (m : Mode) (n bits p l d kept c : ℕ) (left : Remainder) → size n ≤ 2112 → bits ≡ size n → p ≡ prec f → l ≡ lowest f → d ≡ bits - (l + p)
-    → kept ≡ n / 2 ^ (l + d) % 2 ^ 64 → left ≡ remainderOf (n % 2 ^ (l + d)) (2 ^ (l + d)) → c ≡ carry m kept left → c ≤ 1 → Counted f m n d p kept c
+    → kept ≡ n / 2 ^ (l + d) % 2 ^ 64 → left ≡ remainderOf (n % 2 ^ (l + d)) (2 ^ (l + d)) → c ≡ carry m kept left → c ≤ 1 → Counted f m n d kept c
 unfolding sizePattern
 counted f m n bits p l d kept c left few eb ep el ed ek er ec C =
     let k = dropped f n in
@@ -62,10 +62,9 @@ counted f m n bits p l d kept c left few eb ep el ed ek er ec C =
     let lr : left ≡ remainderOf (n % u) u = er ∙ ap (λ (a : ℕ). remainderOf (n % 2 ^ a) (2 ^ a)) cut in
     let cc1 : c ≡ carry m q (remainderOf (n % u) u) = ec ∙ ap (λ (a : ℕ). carry m a left) kq ∙ ap (λ (a : Remainder). carry m q a) lr in
     let F : k * hid f ≤ 2112 * 2 ^ 52 = field-small f n few in
-    let dh : d * 2 ^ (p - 1) ≡ k * hid f = ap (λ (a : ℕ). a * 2 ^ (p - 1)) dk ∙ ap (λ (a : ℕ). k * 2 ^ (a - 1)) ep in
-    let whole : d * 2 ^ (p - 1) % 2 ^ 64 ≡ k * hid f = ap (λ (a : ℕ). a % 2 ^ 64) dh ∙ mod-eq-of-lt (omega arith) in
+    let dh : d * hid f ≡ k * hid f = ap (λ (a : ℕ). a * hid f) dk in
     record {
       fits = omega arith;
       room = omega arith;
-      pattern = ap (λ (a : ℕ). a + (kept + c)) whole ∙ ap (λ (a : ℕ). k * hid f + (a + c)) kq ∙ ap (λ (a : ℕ). k * hid f + (q + a)) cc1;
+      pattern = ap (λ (a : ℕ). a + (kept + c)) dh ∙ ap (λ (a : ℕ). k * hid f + (a + c)) kq ∙ ap (λ (a : ℕ). k * hid f + (q + a)) cc1;
     }

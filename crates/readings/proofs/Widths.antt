@@ -14,11 +14,11 @@ use lib.Ieee.Bits.{is-true, is-false}
 use Rattle.numbers.specs.Units.{signed, rank}
 use Rattle.readings.specs.declared.forms.Direction.{Direction}
 use Rattle.readings.specs.Formats.{Encodes, largest, lowest}
-use Rattle.readings.specs.Limbs.{natural, sumLimit}
 use Rattle.readings.specs.Readings.{shortLimit}
 use Rattle.readings.specs.Rounded.{modeOf, sizePattern, rounded}
 use Rattle.readings.specs.Rounding.{negative}
 use Rattle.readings.specs.declared.rounding.Mode.{Mode}
+use Rattle.readings.proofs.Bounds.{sumLimit}
 use Rattle.readings.proofs.Cases.{lt-or-ge}
 use Rattle.readings.proofs.Grid.{magnitude, magnitudeOf}
 use Rattle.readings.proofs.Patterns.{gridSize, places, Split, split, places-lt, mod-of, place-encodes, Found, found}
@@ -32,9 +32,9 @@ pub sum-long : sumLimit ≤ largest binary64
 unfolding sumLimit largest rank
 sum-long = lit≤ tt
 
-pub short-sum : largest binary32 ≤ sumLimit
-unfolding sumLimit largest rank
-short-sum = lit≤ tt
+pub short-long : largest binary32 ≤ largest binary64
+unfolding largest
+short-long = lit≤ tt
 
 pub short-limit : shortLimit ≡ largest binary32
 unfolding shortLimit largest rank

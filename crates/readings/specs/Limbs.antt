@@ -1,4 +1,4 @@
--- The number that a list of 64-bit limbs stands for, the lowest limb first, and how large a summand and a sum can be.
+-- The number that a list of 64-bit limbs stands for, the lowest limb first, and how large a summand can be.
 use Prim.Native.Nat.{ℕ, _+_, _*_, _^_}
 use mathlib.Core.List.{List, [], _∷_}
 use lib.IntN.{pos}
@@ -11,7 +11,3 @@ natural (x ∷ xs) = x + 2 ^ 64 * natural xs
 -- the largest size of a summand, in units
 abbrev pub summandLimit : ℕ
 summandLimit = 2 ^ rank (pos 1006)
-
--- that of 65,536 summands
-unfoldable pub sumLimit : ℕ
-sumLimit = 65536 * 2 ^ rank (pos 1006)

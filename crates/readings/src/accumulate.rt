@@ -1,10 +1,14 @@
 //! How a sum is made: one summand at a time, from any source.
 ghost use mathlib.Core.Path.{_≡_};
 ghost use Prim.Native.Nat.{_+_, _<_, _≤_};
-ghost use lib.IntN.{pos};
+ghost use lib.Dec.{ltb};
+ghost use lib.IntN.{pos, _+ℤ_};
+ghost use Rattle.numbers.specs.Products.{summandUnits};
 ghost use Rattle.numbers.specs.Units.{rank};
+ghost use Rattle.readings.specs.Limbs.{natural};
 ghost use Rattle.readings.specs.Sums.{accumulated, sumValue, Adds};
 use crate::limbs::add_shifted;
+use crate::limbs::no_limbs;
 use crate::limbs::subtract;
 use crate::sums::Accumulator;
 use crate::sums::ExactSum;
@@ -19,6 +23,16 @@ fn unit_places(summand: Summand) -> u32
     (summand.exponent + 1074) as u32
 }
 
+/// The first size less the second, and whether the second is larger, so that there is no such size.
+fn difference(first: &[u64; 33], second: &[u64; 33]) -> ([u64; 33], bool)
+    ensures answer { λ r. ⌜ r .1 ≡ ltb (natural (now (first .entry))) (natural (now (second .entry))) ⌝ }
+    ensures value { λ r. ⌜ (natural (now (second .entry)) ≤ natural (now (first .entry)) → natural (r .0) + natural (now (second .entry)) ≡ natural (now (first .entry))) ⌝ }
+{
+    let mut rest = *first;
+    let borrow = subtract(&mut rest, second);
+    (rest, borrow != 0)
+}
+
 impl Accumulator {
     /// The sum of nothing.
     pub fn new() -> Accumulator
@@ -26,8 +40,8 @@ impl Accumulator {
         ensures count { λ r. ⌜ r .taken ≡ 0 ⌝ }
     {
         Accumulator {
-            above: [0; 33],
-            below: [0; 33],
+            above: no_limbs(),
+            below: no_limbs(),
             taken: 0,
         }
     }
@@ -39,6 +53,16 @@ impl Accumulator {
         if self.taken >= 65536 {
             return false;
         }
+        self.place(summand);
+        true
+    }
+
+    /// Adds a summand, which has room.
+    fn place(&mut self, summand: Summand)
+        requires { ⌜ now self .taken < 65536 ⌝ }
+        ensures count { λ _. ⌜ now (self .exit) .taken ≡ now (self .entry) .taken + 1 ⌝ }
+        ensures value { λ _. ⌜ accumulated (now (self .exit)) ≡ accumulated (now (self .entry)) +ℤ summandUnits summand ⌝ }
+    {
         self.taken += 1;
         let shift = unit_places(summand);
         if summand.negative {
@@ -46,22 +70,20 @@ impl Accumulator {
         } else {
             add_shifted(&mut self.above, summand.significand, shift);
         }
-        true
     }
 
     /// The sum of what was added.
     pub fn sum(&self) -> ExactSum
         ensures value { λ r. ⌜ sumValue r ≡ accumulated (now (self .entry)) ⌝ }
     {
-        let mut size = self.above;
-        if subtract(&mut size, &self.below) == 0 {
+        let (size, larger) = difference(&self.above, &self.below);
+        if !larger {
             return ExactSum {
                 negative: false,
                 size,
             };
         }
-        let mut size = self.below;
-        let _ = subtract(&mut size, &self.above);
+        let (size, _) = difference(&self.below, &self.above);
         ExactSum {
             negative: true,
             size,
@@ -69,18 +91,25 @@ impl Accumulator {
     }
 }
 
+/// What a condenser hands out, added up.
+fn gathered<C: Condenser>(condenser: &C) -> Accumulator
+    ensures value { λ r. ⌜ accumulated r ≡ C·Condenser .total (now (condenser .entry)) ⌝ }
+{
+    let mut sum = Accumulator::new();
+    for k in 0..condenser.summand_count() {
+        let summand = condenser.summand(k);
+        if summand.significand != 0 {
+            let _ = sum.add(summand);
+        }
+    }
+    sum
+}
+
 impl ExactSum {
     /// The exact sum of what a condenser hands out, which is its total.
     pub fn of<C: Condenser>(condenser: &C) -> ExactSum
         ensures value { λ r. ⌜ sumValue r ≡ C·Condenser .total (now (condenser .entry)) ⌝ }
     {
-        let mut sum = Accumulator::new();
-        for k in 0..condenser.summand_count() {
-            let summand = condenser.summand(k);
-            if summand.significand != 0 {
-                let _ = sum.add(summand);
-            }
-        }
-        sum.sum()
+        gathered(condenser).sum()
     }
 }

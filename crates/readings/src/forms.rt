@@ -1,6 +1,7 @@
 //! How a total is read: the direction of the rounding and the width of the pattern.
 ghost use mathlib.Core.Path.{_≡_};
-ghost use lib.Ieee.{prec, top};
+ghost use Prim.Native.Nat.{_^_, _≤_};
+ghost use lib.Ieee.{hid, prec, top};
 ghost use Rattle.readings.specs.Formats.{formatOf, lowest};
 
 /// Where a total goes that is no number of the format.
@@ -47,6 +48,17 @@ impl Width {
         match self {
             Width::Long => 0,
             Width::Short => 925,
+        }
+    }
+
+    /// The weight of a number's leading digit, and of the exponent's field in a pattern.
+    pub fn leading_digit(self) -> u64
+        ensures answer { λ r. ⌜ r ≡ hid (formatOf self) ⌝ }
+        ensures limits { λ r. ⌜ r ≤ 2 ^ 52 ⌝ }
+    {
+        match self {
+            Width::Long => 0x10_0000_0000_0000,
+            Width::Short => 0x80_0000,
         }
     }
 

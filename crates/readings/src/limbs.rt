@@ -9,6 +9,13 @@ ghost use Rattle.readings.specs.Limbs.{natural};
 /// One more than the largest limb.
 const BASE: u128 = 0x1_0000_0000_0000_0000;
 
+/// The limbs of zero.
+pub(crate) fn no_limbs() -> [u64; 33]
+    ensures value { λ r. ⌜ natural r ≡ 0 ⌝ }
+{
+    [0; 33]
+}
+
 /// Adds `part` at the limb `at`, and the carries above it. The answer is the carry out of the last limb.
 pub(crate) fn add_at(limbs: &mut [u64], at: usize, part: u64) -> u64
     requires { ⌜ at ≤ length (now limbs) ⌝ }

@@ -1,13 +1,14 @@
 //! Readings: an exact sum as a pattern in a form.
 ghost use mathlib.Core.Path.{_≡_};
-ghost use Prim.Native.Nat.{_*_, _%_, _^_, _≤_, _<_};
-ghost use lib.Dec.{leb};
-ghost use lib.Ieee.{binary32, binary64};
+ghost use mathlib.Core.Bool.{cond};
+ghost use Prim.Native.Nat.{_+_, _*_, _%_, _^_, _≤_, _<_};
+ghost use lib.Dec.{leb, ltb};
+ghost use lib.IntN.{ℤ};
+ghost use lib.Ieee.{binary32, binary64, top};
 ghost use Rattle.numbers.specs.Units.{signed};
 ghost use Rattle.readings.specs.Formats.{Encodes, formatOf, largest};
 ghost use Rattle.readings.specs.Limbs.{natural};
 ghost use Rattle.readings.specs.Readings.{Reads, ReadsIn};
-ghost use Rattle.readings.specs.Rounded.{rounded};
 ghost use Rattle.readings.specs.Rounding.{Rounds};
 ghost use Rattle.readings.specs.Sums.{sumValue};
 ghost use Rattle.readings.specs.declared.forms.Width.the-variants.{Short};
@@ -15,6 +16,7 @@ use crate::forms::Direction;
 use crate::forms::Form;
 use crate::forms::Width;
 use crate::limbs::add_shifted;
+use crate::limbs::no_limbs;
 use crate::rounding::size_mode;
 use crate::rounding::size_pattern;
 use crate::sums::ExactSum;
@@ -51,7 +53,7 @@ fn pattern_sum(pattern: u64) -> ExactSum
     ensures limits { λ r. ⌜ natural (r .size) ≤ largest binary32 ⌝ }
 {
     let (significand, shift) = significand_of(pattern);
-    let mut size = [0; 33];
+    let mut size = no_limbs();
     add_shifted(&mut size, significand, shift);
     ExactSum {
         negative: pattern > SIGN,
@@ -59,18 +61,47 @@ fn pattern_sum(pattern: u64) -> ExactSum
     }
 }
 
+/// The pattern of a size with its sign.
+fn with_sign(width: Width, negative: bool, size: u64) -> u64
+    requires { ⌜ top (formatOf width) + size < 2 ^ 64 ⌝ }
+    ensures answer { λ r. ⌜ r ≡ cond negative (top (formatOf width)) 0 + size ⌝ }
+{
+    if negative {
+        width.sign_bit() + size
+    } else {
+        size
+    }
+}
+
+/// Whether a binary64 pattern is larger in size than every binary32 number.
+fn passes_short(pattern: u64) -> bool
+    ensures answer { λ r. ⌜ r ≡ ltb 0x47ef_ffff_e000_0000 (pattern % 2 ^ 63) ⌝ }
+{
+    pattern % SIGN > SHORT_LARGEST
+}
+
+/// A long reading rounded once more, to binary32, in the same direction.
+fn shortened(long: u64, direction: Direction) -> Result<u64, Refusal>
+    ensures answer { λ r. ⌜ ((x : ℤ) → Rounds binary64 direction x long → ReadsIn Short direction x r) ⌝ }
+{
+    if passes_short(long) {
+        return Err(Refusal {
+            reason: Reason::ShortRange,
+            place: 0,
+            side: Side::Neither,
+        });
+    }
+    Ok(pattern_sum(long).pattern(Width::Short, direction))
+}
+
 impl ExactSum {
     /// The pattern of the sum in a width that has room for it.
     fn pattern(&self, width: Width, direction: Direction) -> u64
         requires { ⌜ natural (now self .size) ≤ largest (formatOf width) ⌝ }
-        ensures answer { λ r. ⌜ r ≡ rounded (formatOf width) direction (sumValue (now (self .entry))) ⌝ }
+        ensures answer { λ r. ⌜ Rounds (formatOf width) direction (sumValue (now (self .entry))) r ⌝ }
     {
-        let pattern = size_pattern(&self.size, width, size_mode(direction, self.negative));
-        if self.negative {
-            width.sign_bit() + pattern
-        } else {
-            pattern
-        }
+        let size = size_pattern(&self.size, width, size_mode(direction, self.negative));
+        with_sign(width, self.negative, size)
     }
 
     /// The long reading: the sum rounded to binary64. It is always a finite number.
@@ -84,15 +115,7 @@ impl ExactSum {
     pub fn short(&self, direction: Direction) -> Result<u64, Refusal>
         ensures answer { λ r. ⌜ ReadsIn Short direction (sumValue (now (self .entry))) r ⌝ }
     {
-        let long = self.long(direction);
-        if long % SIGN > SHORT_LARGEST {
-            return Err(Refusal {
-                reason: Reason::ShortRange,
-                place: 0,
-                side: Side::Neither,
-            });
-        }
-        Ok(pattern_sum(long).pattern(Width::Short, direction))
+        shortened(self.long(direction), direction)
     }
 
     /// The reading in a form.

@@ -1,6 +1,7 @@
 //! How a size is rounded: the kept digits, what is left below them, and the carry.
 ghost use mathlib.Core.Path.{_≡_};
-ghost use Prim.Native.Nat.{_+_, _-_, _*_, _%_, _^_, _≤_};
+ghost use Prim.Native.Nat.{_+_, _-_, _*_, _%_, _^_, _≤_, _<_};
+ghost use lib.Ieee.{hid};
 ghost use lib.ListN.{length};
 ghost use Rattle.readings.specs.Formats.{formatOf};
 ghost use Rattle.readings.specs.Limbs.{natural};
@@ -58,12 +59,10 @@ fn left_below(limbs: &[u64], cut: u32) -> Remainder
         } else {
             Remainder::Half
         }
+    } else if rest {
+        Remainder::BelowHalf
     } else {
-        if rest {
-            Remainder::BelowHalf
-        } else {
-            Remainder::Nothing
-        }
+        Remainder::Nothing
     }
 }
 
@@ -91,6 +90,14 @@ fn carry_into(mode: Mode, kept: u64, left: Remainder) -> u64
     }
 }
 
+/// The digits behind the dropped ones in the exponent's field, where a carry out of the digits adds one.
+fn joined(width: Width, dropped: u64, digits: u64) -> u64
+    requires { ⌜ dropped * hid (formatOf width) + digits < 2 ^ 64 ⌝ }
+    ensures answer { λ r. ⌜ r ≡ dropped * hid (formatOf width) + digits ⌝ }
+{
+    dropped * width.leading_digit() + digits
+}
+
 /// The pattern of a size, without a sign. The exponent's field counts the dropped digits; the leading digit adds one to it, and so does a carry
 /// out of the digits.
 pub(crate) fn size_pattern(size: &[u64], width: Width, mode: Mode) -> u64
@@ -102,5 +109,5 @@ pub(crate) fn size_pattern(size: &[u64], width: Width, mode: Mode) -> u64
     let dropped = bit_length(size).saturating_sub(lowest + precision);
     let kept = bits_from(size, lowest + dropped);
     let carry = carry_into(mode, kept, left_below(size, lowest + dropped));
-    ((dropped as u64) << (precision - 1)) + (kept + carry)
+    joined(width, dropped as u64, kept + carry)
 }

@@ -1,51 +1,34 @@
--- The sign bit goes before the pattern of the size.
+-- The sign bit goes before the pattern of the size, and the whole is the rounding.
 use mathlib.Core.Path.{_≡_, sym, ap, _∙_, subst}
-use mathlib.Core.Bool.{Bool, true, false, cond}
-use native.Mathlib.Nat.{zero-add}
-use Prim.Native.Nat.{ℕ, _+_, _^_, _<_}
+use mathlib.Core.Bool.{Bool, cond}
+use native.Mathlib.Nat.{le-trans, le-of-eq}
+use Prim.Native.Nat.{ℕ, _+_, _^_, _<_, _≤_}
+use lib.IntN.{natAbs}
 use lib.Ieee.{Format, top}
-use Rattle.readings.specs.Formats.{formatOf}
+use Rattle.readings.specs.Formats.{formatOf, largest}
 use Rattle.readings.specs.Limbs.{natural}
-use Rattle.readings.specs.Rounded.{modeOf, sizePattern}
+use Rattle.readings.specs.Rounded.{modeOf, sizePattern, rounded}
+use Rattle.readings.specs.Rounding.{Rounds}
+use Rattle.readings.specs.Sums.{sumValue}
 use Rattle.readings.specs.declared.rounding.Mode.{Mode}
+use Rattle.readings.proofs.Directions.{rounded-rounds, size-of}
 use Rattle.readings.proofs.Widths.{rounded-by, signed-fits}
 use Rattle.readings.proofs.sums.ExactSum.pattern.Needs as need
 
-pub add-result : need.add-result
-add-result c =
+pub with-sign-requires : need.with-sign-requires
+with-sign-requires c κs =
     let f = formatOf (c .args .width) in
-    let s = c .args .self .now in
-    record {
-      fits =
-          subst (λ (a : ℕ). a + c .size-pattern-pattern .result < 2 ^ 64) (sym (c .sign-bit .ensures .answer))
-          (subst (λ (a : ℕ). top f + a < 2 ^ 64) (sym (c .size-pattern-pattern .ensures .answer)) (signed-fits f (c .size-mode .result) (natural (s .size)) (c .pre)));
-    }
+    subst (λ (a : ℕ). top f + a < 2 ^ 64) (sym (c .size-pattern-size .ensures .answer)) (signed-fits f (c .size-mode .result) (natural (c .args .self .now .size)) (c .pre))
 
-pub returns-then-self : need.returns-then-self
-returns-then-self c =
+pub returns : need.returns
+returns c =
     let f = formatOf (c .args .width) in
     let s = c .args .self .now in
     let d = c .args .direction in
     let n = natural (s .size) in
-    record {
-      answer =
-          ap (λ (a : ℕ). a + c .size-pattern-pattern .result) (c .sign-bit .ensures .answer)
-          ∙ ap (λ (a : ℕ). top f + a) (c .size-pattern-pattern .ensures .answer ∙ ap (λ (m : Mode). sizePattern f m n) (c .size-mode .ensures .answer))
-          ∙ ap (λ (b : Bool). cond b (top f) 0 + sizePattern f (modeOf d (s .negative)) n) (sym (c .if-self .taken))
-          ∙ sym (rounded-by f d (s .negative) n (s .plus));
-    }
-
-pub returns-else-self : need.returns-else-self
-returns-else-self c =
-    let f = formatOf (c .args .width) in
-    let s = c .args .self .now in
-    let d = c .args .direction in
-    let n = natural (s .size) in
-    record {
-      answer =
-          c .size-pattern-pattern .ensures .answer
-          ∙ ap (λ (m : Mode). sizePattern f m n) (c .size-mode .ensures .answer)
-          ∙ sym (zero-add (sizePattern f (modeOf d (s .negative)) n))
-          ∙ ap (λ (b : Bool). cond b (top f) 0 + sizePattern f (modeOf d (s .negative)) n) (sym (c .if-self .left))
-          ∙ sym (rounded-by f d (s .negative) n (s .plus));
-    }
+    let small : natAbs (sumValue s) ≤ largest f = le-trans (le-of-eq (size-of (s .negative) n)) (c .pre) in
+    let is : c .with-sign .result ≡ rounded f d (sumValue s) =
+    c .with-sign .ensures .answer
+    ∙ ap (λ (a : ℕ). cond (s .negative) (top f) 0 + a) (c .size-pattern-size .ensures .answer ∙ ap (λ (m : Mode). sizePattern f m n) (c .size-mode .ensures .answer))
+    ∙ sym (rounded-by f d (s .negative) n (s .plus)) in
+    record { answer = subst (λ (b : ℕ). Rounds f d (sumValue s) b) (sym is) (rounded-rounds f d (sumValue s) small) }

@@ -8,7 +8,7 @@ use lib.ListN.{length}
 use Rattle.numbers.specs.Units.{rank, signed, units}
 use Rattle.readings.specs.Limbs.{natural, summandLimit}
 use Rattle.readings.proofs.Bounds.{room, above-more, below-more}
-use Rattle.readings.proofs.sums.Accumulator.add.Needs as need
+use Rattle.readings.proofs.sums.Accumulator.place.Needs as need
 
 -- the size of the summand at the places that the code found
 size : (s places e : ℕ) → places ≡ e → s * 2 ^ e ≤ summandLimit → s * 2 ^ places ≤ summandLimit
@@ -20,7 +20,7 @@ add-shifted-requires c κs =
     let s = c .args .summand in
     record {
       reach = omega arith;
-      room = room (natural (a .below)) (a .taken) (s .significand * 2 ^ c .unit-places-shift .result) (length (a .below)) (omega arith) (c .if-self-ge65536 .left) (a .«below_bounded»)
+      room = room (natural (a .below)) (a .taken) (s .significand * 2 ^ c .unit-places-shift .result) (length (a .below)) (omega arith) (c .pre) (a .«below_bounded»)
           (size (s .significand) (c .unit-places-shift .result) (rank (s .exponent)) (c .unit-places-shift .ensures .answer) (s .bounded));
     }
 
@@ -30,7 +30,7 @@ add-shifted-requires-else-summand c κs =
     let s = c .args .summand in
     record {
       reach = omega arith;
-      room = room (natural (a .above)) (a .taken) (s .significand * 2 ^ c .unit-places-shift .result) (length (a .above)) (omega arith) (c .if-self-ge65536 .left) (a .«above_bounded»)
+      room = room (natural (a .above)) (a .taken) (s .significand * 2 ^ c .unit-places-shift .result) (length (a .above)) (omega arith) (c .pre) (a .«above_bounded»)
           (size (s .significand) (c .unit-places-shift .result) (rank (s .exponent)) (c .unit-places-shift .ensures .answer) (s .bounded));
     }
 
@@ -44,12 +44,10 @@ returns-then-summand c =
     let s = c .args .summand in
     let v = s .significand * 2 ^ c .unit-places-shift .result in
     record {
-      after = (
-        c .if-self-ge65536 .left,
-        refl,
-        below-more (natural (a .above)) (natural (a .below)) (natural (c .add-shifted .last .limbs)) v (c .add-shifted .ensures .value)
-            ∙ ap (λ (x : ℤ). (pos (natural (a .above)) -ℤ pos (natural (a .below))) +ℤ x) (sym (value true (s .negative) (s .significand) (c .unit-places-shift .result) (s .exponent) (c .if-summand .taken) (c .unit-places-shift .ensures .answer))),
-      );
+      count = refl;
+      value =
+          below-more (natural (a .above)) (natural (a .below)) (natural (c .add-shifted .last .limbs)) v (c .add-shifted .ensures .value)
+          ∙ ap (λ (x : ℤ). (pos (natural (a .above)) -ℤ pos (natural (a .below))) +ℤ x) (sym (value true (s .negative) (s .significand) (c .unit-places-shift .result) (s .exponent) (c .if-summand .taken) (c .unit-places-shift .ensures .answer)));
     }
 
 pub returns-else-summand : need.returns-else-summand
@@ -58,10 +56,8 @@ returns-else-summand c =
     let s = c .args .summand in
     let v = s .significand * 2 ^ c .unit-places-shift .result in
     record {
-      after = (
-        c .if-self-ge65536 .left,
-        refl,
-        above-more (natural (a .above)) (natural (c .add-shifted-else-summand .last .limbs)) (natural (a .below)) v (c .add-shifted-else-summand .ensures .value)
-            ∙ ap (λ (x : ℤ). (pos (natural (a .above)) -ℤ pos (natural (a .below))) +ℤ x) (sym (value false (s .negative) (s .significand) (c .unit-places-shift .result) (s .exponent) (c .if-summand .left) (c .unit-places-shift .ensures .answer))),
-      );
+      count = refl;
+      value =
+          above-more (natural (a .above)) (natural (c .add-shifted-else-summand .last .limbs)) (natural (a .below)) v (c .add-shifted-else-summand .ensures .value)
+          ∙ ap (λ (x : ℤ). (pos (natural (a .above)) -ℤ pos (natural (a .below))) +ℤ x) (sym (value false (s .negative) (s .significand) (c .unit-places-shift .result) (s .exponent) (c .if-summand .left) (c .unit-places-shift .ensures .answer)));
     }

@@ -15,8 +15,8 @@ use Rattle.numbers.specs.Units.{units, signed, rank}
 use Rattle.condensers.specs.Meaning.{sumUnits, StandsAt}
 use Rattle.readings.specs.declared.sums.Accumulator.{Accumulator}
 use Rattle.readings.specs.Sums.{accumulated, Adds}
-use Rattle.readings.proofs.sums.ExactSum.of.Needs as need
-use Rattle.readings.proofs.sums.ExactSum.of.Needs.{then-summand-ne0, else-summand-ne0}
+use Rattle.readings.proofs.accumulate.gathered.Needs as need
+use Rattle.readings.proofs.accumulate.gathered.Needs.{then-summand-ne0, else-summand-ne0}
 
 -- the next summand, and those behind it
 next : (ss : List Summand) (k : ℕ) (s : Summand) → k < length ss → StandsAt ss k s → sumUnits (drop k ss) ≡ summandUnits s +ℤ sumUnits (drop (k + 1) ss)
@@ -74,4 +74,4 @@ returns g c =
     let x = c .args .condenser .now in
     let ss = g .C·Condenser .summands x in
     let a = accumulated (c .loop-k .sum) in
-    record { value = c .sum .ensures .value ∙ sym (+ℤ-idr a) ∙ ap (λ (l : List Summand). a +ℤ sumUnits l) (sym (drop-all (c .loop-k .k) ss (omega arith))) ∙ c .loop-k .inv .0 }
+    record { value = sym (+ℤ-idr a) ∙ ap (λ (l : List Summand). a +ℤ sumUnits l) (sym (drop-all (c .loop-k .k) ss (omega arith))) ∙ c .loop-k .inv .0 }
