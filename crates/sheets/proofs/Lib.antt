@@ -6,4 +6,5 @@ pub mod Counted
 pub mod Leading
 pub mod Literals
 pub mod Entire
+pub mod Chunks
 pub mod Outputs
