@@ -44,10 +44,13 @@ before-feed line (x ∷ xs) h = go (eqb x 10) refl (before-feed (longer line x) 
   where
     longer-short : length (longer line x) ≤ 40
     longer-short = simp length-take (omega arith)
+
     short : take 40 (line ++ []) ≡ line
     short = ap (take 40) (append-nil line) ∙ take-all 40 line h
+
     joined : take 40 (longer line x ++ take (feedAt xs) xs) ≡ take 40 (line ++ (x ∷ take (feedAt xs) xs))
     joined = take-take-append 40 (line ++ (x ∷ [])) (take (feedAt xs) xs) ∙ ap (take 40) (append-assoc line (x ∷ []) (take (feedAt xs) xs))
+
     go : (test : Bool) → eqb x 10 ≡ test → (ended (longer line x) (take (feedAt xs) xs) ≡ []) × (begun (longer line x) (take (feedAt xs) xs) ≡ take 40 (longer line x ++ take (feedAt xs) xs)) → (ended line (take (cond test 0 (suc (feedAt xs))) (x ∷ xs)) ≡ []) × (begun line (take (cond test 0 (suc (feedAt xs))) (x ∷ xs)) ≡ take 40 (line ++ take (cond test 0 (suc (feedAt xs))) (x ∷ xs)))
     go true q k = (refl, sym short)
     go false q k = (rw q (k .0), rw q (k .1 ∙ joined))
@@ -99,7 +102,7 @@ took-after before after chunk r t past a =
       line = sym (begun-join [] past (take r chunk) ∙ ap (λ l. begun l (take r chunk)) (sym (a .line)) ∙ t .line);
       earlier = a .earlier ++ yielded before;
       lines = ended-join [] past (take r chunk) ∙ ap (λ l. ended [] past ++ ended l (take r chunk)) (sym (a .line)) ∙ ap (λ l. ended [] past ++ l) (t .lines) ∙ ap (λ l. l ++ yielded after) (a .lines);
-      number = λ h. counted (before .complete) refl (subst (λ n. n + 1 < 2 ^ 64) (length-append (a .earlier) (yielded before)) h) ∙ ap (λ n. n + 1) (sym (length-append (a .earlier) (yielded before)))
+      number = λ h. counted (before .complete) refl (subst (λ n. n + 1 < 2 ^ 64) (length-append (a .earlier) (yielded before)) h) ∙ ap (λ n. n + 1) (sym (length-append (a .earlier) (yielded before)));
     }
   where
     counted : (b : Bool) → before .complete ≡ b → length (a .earlier) + length (yielded before) + 1 < 2 ^ 64 → after .number ≡ length (a .earlier) + length (yielded before) + 1
@@ -128,6 +131,7 @@ take-clip k [] ys h = rw sub-zero (go (length-cases (length ys) k))
   where
     length-cases : (m n : ℕ) → (m < n) ⊎ (n ≤ m)
     length-cases m n = cases-lt m n
+
     go : (length ys < k) ⊎ (k ≤ length ys) → take k ys ≡ take (min (length ys) k) ys
     go (inl l) = let e : min (length ys) k ≡ length ys = omega arith in rw e (take-all k ys (omega arith) ∙ sym (take-all (length ys) ys (omega arith)))
     go (inr l) = let e : min (length ys) k ≡ k = omega arith in rw e
@@ -151,5 +155,5 @@ fed-line before after chunk at kept h at-is fed kept-is complete number =
       lines = ap (λ n. ended (current before) (take (n + 1) chunk)) at-is ∙ fed .0 ∙ ap (λ t. t ∷ []) (sym kept-is) ∙ sym (cond-true (after .complete) (held after ∷ []) [] complete);
       line = ap (λ n. begun (current before) (take (n + 1) chunk)) at-is ∙ fed .1 ∙ sym (cond-true (after .complete) [] (held after) complete);
       all = λ e. absurd (both-ways (after .complete) e complete);
-      number = number
+      number = number;
     }

@@ -189,7 +189,7 @@ count-zero bytes q =
       within = front .1;
       is-shape = subst (Lang (countShape end)) (sym (front .0)) (inl (refl, tt));
       goes-on = λ rest closed. count-reach rest bytes ∙ rw (q, zero-sign bytes q) (omega (arith, size-none bytes (zero-size bytes q) rest));
-      element-is = (decimal-digit 0 (lit< tt) ∙ sym (front .0), λ bad. zero-inside (subst NoCount (front .0) bad))
+      element-is = (decimal-digit 0 (lit< tt) ∙ sym (front .0), λ bad. zero-inside (subst NoCount (front .0) bad));
     }
   where
     zero-inside : NoCount (48 ∷ []) → ⊥
@@ -202,7 +202,7 @@ count-plain bytes z m h e w =
       within = at .1;
       is-shape = spelled-lang false (take (sizeRun bytes) bytes) (at .0);
       goes-on = λ rest closed. count-reach rest bytes ∙ omega (arith, size-some bytes rest h closed, cond-false (begins 48 bytes) (suc (reach rest (drop 1 bytes))) 0 z, cond-false (begins 45 bytes) (suc (reach (sizeShape rest) (drop 1 bytes))) 0 m);
-      element-is = spelled-element false (take (sizeRun bytes) bytes) (at .0) e w
+      element-is = spelled-element false (take (sizeRun bytes) bytes) (at .0) e w;
     }
 
 count-minus : (bs : List ℕ) → 0 < sizeRun bs → (e : Option ℤ) → Within 32 (negℤ (pos (numberOf 10 (take (sizeRun bs) bs)))) e → TextAt countShape countText NoCount (45 ∷ bs) (record { len = suc (sizeRun bs); element = e })
@@ -212,7 +212,7 @@ count-minus bs h e w =
       within = omega (arith, at .1);
       is-shape = spelled-lang true (take (sizeRun bs) bs) (at .0);
       goes-on = λ rest closed. count-reach rest (45 ∷ bs) ∙ omega (arith, size-some bs rest h closed, size-none (45 ∷ bs) refl rest);
-      element-is = spelled-element true (take (sizeRun bs) bs) (at .0) e w
+      element-is = spelled-element true (take (sizeRun bs) bs) (at .0) e w;
     }
 
 pub count-some : (bytes : List ℕ) (negative : Bool) (s n : ℕ) → begins 48 bytes ≡ false → begins 45 bytes ≡ negative → s ≡ cond negative 1 0 → n ≡ sizeRun (drop s bytes) → 0 < n → (e : Option ℤ) → Within 32 (withSign negative (numberOf 10 (take n (drop s bytes)))) e → TextAt countShape countText NoCount bytes (record { len = s + n; element = e })
@@ -226,7 +226,7 @@ count-some bytes negative s n z m si ni h e w = go bytes negative z m (subst (λ
     go (b ∷ bs) true z m ni w len =
         subst (λ t. TextAt countShape countText NoCount t (record { len = s + n; element = e })) (ap (λ d. d ∷ bs) (sym (eqb-true b 45 m)))
         (subst (λ k. TextAt countShape countText NoCount (45 ∷ bs) (record { len = k; element = e })) (sym (len ∙ one-add n ∙ ap suc ni))
-          (count-minus bs (omega arith) e (subst (λ k. Within 32 (negℤ (pos (numberOf 10 (take k bs)))) e) ni w)))
+        (count-minus bs (omega arith) e (subst (λ k. Within 32 (negℤ (pos (numberOf 10 (take k bs)))) e) ni w)))
 
 -- no count: the bytes go along with a sign at most
 pub count-stop : (bytes : List ℕ) (negative : Bool) (s : ℕ) → begins 48 bytes ≡ false → begins 45 bytes ≡ negative → s ≡ cond negative 1 0 → sizeRun (drop s bytes) ≡ 0 → (s ≤ length bytes) × ((rest : Form) → reach (countShape rest) bytes ≡ s)
@@ -248,13 +248,15 @@ size-most bytes = go (begins 48 bytes) (run-within 10 10 bytes)
 decimal-size : (n : ℕ) → 0 < n → n < 10 ^ 10 → Size (decimal n) × (numberOf 10 (decimal n) ≡ n)
 decimal-size n p h =
     let short : n < 2 ^ 64 = omega arith in
-    let ds = decimal n in
-    (record {
-      digits = digits-decimal own n short;
-      first = no-zero (decimal n) (first-decimal n p short);
-      some = decimal-some n short;
-      few = length-decimal-le 10 n (lit< tt) h short
-    }, value-decimal own n short)
+    let ds = decimal n in (
+      record {
+        digits = digits-decimal own n short;
+        first = no-zero (decimal n) (first-decimal n p short);
+        some = decimal-some n short;
+        few = length-decimal-le 10 n (lit< tt) h short;
+      },
+      value-decimal own n short,
+    )
   where
     no-zero : (ds : List ℕ) → 48 < getD ds 0 0 → begins 48 ds ≡ false
     no-zero [] k = refl
@@ -273,7 +275,7 @@ spelled-size negative n p h =
     record {
       is-shape = subst (Lang (countShape end)) (sym text) (spelled-lang negative (decimal n) (size .0));
       short = subst (λ t. length t ≤ 16) (sym text) (len negative (size .0 .few));
-      number-is = ap countOf text ∙ spelled-number negative (decimal n) (size .0) ∙ ap (withSign negative) (size .1)
+      number-is = ap countOf text ∙ spelled-number negative (decimal n) (size .0) ∙ ap (withSign negative) (size .1);
     }
   where
     len : (negative : Bool) → length (decimal n) ≤ 10 → length (spelled negative (decimal n)) ≤ 16

@@ -102,7 +102,7 @@ module _ (line : List ℕ) (w : Word) (front : line ≡ wordText w ++ (9 ∷ dro
               whole = front ∙ ap (λ t. wordText w ++ (9 ∷ t)) joined ∙ sym (append-assoc (wordText w) (9 ∷ between 4 tab line) (9 ∷ between (tab + 1) (other .end) line));
               is-word = is-word w;
               is-first = first .is-field;
-              is-second = second .is-field
+              is-second = second .is-field;
             }
 
         first-length : 5 + length (between 4 tab line) ≡ tab + 1
@@ -113,20 +113,26 @@ module _ (line : List ℕ) (w : Word) (front : line ≡ wordText w ++ (9 ∷ dro
         -- the fields, or the first of them that is out of range
         pub first-out : length line ≤ other .end → found .field ≡ None → (e : Refusal) → Refused e 6 4 1 → ReadsLine line (Err e)
         first-out h none e r = inr (inl (record {
-          word = wordText w; first = between 4 tab line; second = between (tab + 1) (other .end) line;
+          word = wordText w;
+          first = between 4 tab line;
+          second = between (tab + 1) (other .end) line;
           parts = parts-are h;
           out = subst (λ o. BySome o (OutOfRange (between 4 tab line)) (λ f. IsField (between 4 tab line) 4 f)) none (first .field-is);
-          refused = r }))
+          refused = r;
+        }))
 
         pub second-out : length line ≤ other .end → (f : Field) → found .field ≡ Some f → other .field ≡ None → (e : Refusal) → Refused e 6 (tab + 1) 2 → ReadsLine line (Err e)
         second-out h f some none e r =
             let is : IsField (between 4 tab line) 4 f = subst (λ o. BySome o (OutOfRange (between 4 tab line)) (λ f. IsField (between 4 tab line) 4 f)) some (first .field-is) in
             inr (inr (record {
-              word = wordText w; first = between 4 tab line; second = between (tab + 1) (other .end) line;
+              word = wordText w;
+              first = between 4 tab line;
+              second = between (tab + 1) (other .end) line;
               parts = parts-are h;
               inside = is .inside;
               out = subst (λ o. BySome o (OutOfRange (between (tab + 1) (other .end) line)) (λ f. IsField (between (tab + 1) (other .end) line) (tab + 1) f)) none (second .field-is);
-              refused = subst (λ p. Refused e 6 p 2) (sym first-length) r }))
+              refused = subst (λ p. Refused e 6 p 2) (sym first-length) r;
+            }))
 
         pub line-read : length line ≤ other .end → (f g : Field) → found .field ≡ Some f → other .field ≡ Some g → IsLine line (record { word = w; first = f; second = g })
         line-read h f g some also =
@@ -136,5 +142,5 @@ module _ (line : List ℕ) (w : Word) (front : line ≡ wordText w ++ (9 ∷ dro
             record {
               parts = subst (λ t. Parts line (wordText w) t (fieldText g)) (sym (is .bytes-are)) (subst (λ t. Parts line (wordText w) (between 4 tab line) t) (sym (js .bytes-are)) (parts-are h));
               first-is = subst (λ t. IsField t 4 f) (sym (is .bytes-are)) is;
-              second-is = subst (λ p. IsField (fieldText g) p g) place (subst (λ t. IsField t (tab + 1) g) (sym (js .bytes-are)) js)
+              second-is = subst (λ p. IsField (fieldText g) p g) place (subst (λ t. IsField t (tab + 1) g) (sym (js .bytes-are)) js);
             }

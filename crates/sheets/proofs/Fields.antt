@@ -80,7 +80,7 @@ pattern-read bytes n all is =
       within = within;
       is-shape = digits-repeat 16 refl 16 (take 16 bytes) digits len;
       goes-on = λ rest closed. repeat-all 16 refl 16 rest bytes all;
-      element-is = (ap (lastDigits 16 16) is ∙ last-number 16 16 (take 16 bytes) (lit< tt) (lit≤ tt) digits len, λ bad. bad)
+      element-is = (ap (lastDigits 16 16) is ∙ last-number 16 16 (take 16 bytes) (lit< tt) (lit≤ tt) digits len, λ bad. bad);
     }
 
 pub pattern-stop : (bytes : List ℕ) → run 16 16 bytes < 16 → (rest : Form) → reach (patternShape rest) bytes ≡ run 16 16 bytes

@@ -1,24 +1,32 @@
 -- A field from its letter on: how far a line goes along with it. Assumes nothing.
-use Prim.Native.Nat.{ℕ, zero, suc, max, _+_, _-_, _≤_, _<_}
+use Prim.Native.Nat.{ℕ, zero, suc, max, _+_, _-_, _^_, _≤_, _<_}
 use mathlib.Core.Path.{_≡_, refl, ap, sym, subst, _∙_}
 use mathlib.Core.Bool.{Bool, true, false, cond}
 use mathlib.Core.List.{List, [], _∷_, _++_}
 use mathlib.Core.Logic.{_⊎_, inl, inr}
 use native.Mathlib.Omega.{arith}
-use lib.Dec.{eqb}
+use borrow.Author.Differences.{ints}
+use denote.Ref.{now}
+use lib.Dec.{eqb, lit<, lit≤}
+use lib.IntN.{ℤ, pos, negsuc}
+use lib.Signed.{mag}
 use lib.ListN.{length, getD, take, drop}
 use Rattle.std.specs.Options.{Cases as BySome}
 use Rattle.std.specs.declared.option.Option.{Option}
 use Rattle.std.specs.declared.option.Option.the-variants.{Some, None}
 use Rattle.std.specs.shelf.Lists.{between}
 use Rattle.std.proofs.shelf.Lists.{drop-more, drop-all, drop-drop, length-drop}
-use Rattle.std.proofs.shelf.Tests.{eqb-false, ne-eqb}
+use Rattle.std.proofs.shelf.Tests.{eqb-false, ne-eqb, cases-lt}
+use Rattle.std.proofs.shelf.Decimals.{same-from-signed}
 use Rattle.sheets.specs.declared.line.Field.{Field}
+use Rattle.sheets.specs.declared.line.Field.the-variants.{Pattern, Count}
 use Rattle.sheets.specs.declared.written.Read.{Read}
-use Rattle.sheets.specs.Elements.{TextAt, Closed, NoPattern, NoCount}
+use Rattle.sheets.specs.Elements.{TextAt, Closed, Outside, patternText, countText, NoPattern, NoCount}
+use Rattle.sheets.specs.Digits.{numberOf}
 use Rattle.sheets.specs.Forms.{Form, end, one, either, Lang, reach}
-use Rattle.sheets.specs.Lines.{Leads, IsField, FieldAt, OutOfRange, fieldText, placeOf, Writes}
+use Rattle.sheets.specs.Lines.{Leads, IsField, FieldAt, OutOfRange, fieldText, placeOf, Writes, HoldsPattern, HoldsCount}
 use Rattle.sheets.specs.Shapes.{byte, literal, patternShape, countShape, fieldShape}
+use Rattle.sheets.proofs.Numerals.{number-last}
 
 pub pattern-leads : Leads 112 patternShape NoPattern
 unfolding fieldShape
@@ -27,7 +35,7 @@ pattern-leads =
       along = λ rest bs. omega arith;
       is-field = λ text h. inl (refl, h);
       out = λ text bad. absurd bad;
-      only = λ text out. elim out [ inl h ↦ h .1 | inr h ↦ absurd (omega (arith, h .0)) ]
+      only = λ text out. elim out [ inl h ↦ h .1 | inr h ↦ absurd (omega (arith, h .0)) ];
     }
 
 pub count-leads : Leads 99 countShape NoCount
@@ -37,7 +45,7 @@ count-leads =
       along = λ rest bs. omega arith;
       is-field = λ text h. inr (refl, h);
       out = λ text bad. inr (refl, bad);
-      only = λ text out. elim out [ inl h ↦ absurd (h .1) | inr h ↦ h .1 ]
+      only = λ text out. elim out [ inl h ↦ absurd (h .1) | inr h ↦ h .1 ];
     }
 
 -- bytes that begin with no letter of a kind go along with no field
@@ -66,7 +74,7 @@ module _ (line : List ℕ) (at letter : ℕ) (is-letter : getD line at 0 ≡ let
           within = omega (arith, t .within, length-drop (at + 1) line);
           is-field = subst (Lang (fieldShape end)) (sym bytes) (leads .is-field (take (r .len) (drop (at + 1) line)) (t .is-shape));
           goes-on = λ rest closed. along rest closed;
-          field-is = is
+          field-is = is;
         }
       where
         along : (rest : Form) → Closed rest → at + reach (fieldShape rest) (drop at line) ≡ at + 1 + r .len + reach rest (drop (at + 1 + r .len) line)
@@ -93,7 +101,7 @@ module _ (line : List ℕ) (at letter : ℕ) (is-letter : getD line at 0 ≡ let
           bytes-are = holds ∙ sym (field-bytes (r .len));
           place-is = place;
           writes = writes (is .0);
-          inside = λ out. is .1 (leads .only bytes (subst OutOfRange (field-bytes (r .len)) out))
+          inside = λ out. is .1 (leads .only bytes (subst OutOfRange (field-bytes (r .len)) out));
         })
 
   -- or the line goes along with the shape no further
@@ -112,3 +120,36 @@ pub no-field-at : (line : List ℕ) (at : ℕ) → at < length line → (getD li
 no-field-at line at h p q rest =
     let none : reach (fieldShape rest) (drop at line) ≡ 0 = ap (reach (fieldShape rest)) (drop-more line at 0 h) ∙ no-letter (getD line at 0 ∷ drop (at + 1) line) (λ l. p) (λ l. q) rest in
     omega arith
+
+-- a pattern is known by its text, and so is a count
+pattern-same : (m n : ℕ) → m < 2 ^ 64 → n < 2 ^ 64 → patternText m ≡ patternText n → m ≡ n
+unfolding patternText
+pattern-same m n h k e = sym (number-last 16 16 m (lit< tt) (lit≤ tt) h) ∙ ap (numberOf 16) e ∙ number-last 16 16 n (lit< tt) (lit≤ tt) k
+
+count-same : (y z : ℤ) → (Outside 32 y → ⊥) → (Outside 32 z → ⊥) → countText y ≡ countText z → y ≡ z
+unfolding countText
+count-same y z h k e = same-from-signed y z (short y h) (short z k) e
+  where
+    short : (z : ℤ) → (Outside 32 z → ⊥) → mag z < 2 ^ 63
+    short (pos n) h = go (cases-lt n (2 ^ 31))
+      where
+        go : (n < 2 ^ 31) ⊎ (2 ^ 31 ≤ n) → n < 2 ^ 63
+        go (inl l) = omega arith
+        go (inr l) = absurd (h (inr (omega (arith, ints))))
+    short (negsuc n) h = go (cases-lt n (2 ^ 31))
+      where
+        go : (n < 2 ^ 31) ⊎ (2 ^ 31 ≤ n) → n < 2 ^ 63
+        go (inl l) = omega arith
+        go (inr l) = absurd (h (inl (omega (arith, ints))))
+
+pub pattern-back : (n : ℕ) → n < 2 ^ 64 → (f : Field) → fieldText f ≡ 112 ∷ patternText n → Writes f → HoldsPattern f n
+pattern-back n h (Pattern digits place element) e w =
+    let text : now digits ≡ patternText n = cc in
+    pattern-same element n (w .0) h (w .1 ∙ text)
+pattern-back n h (Count digits place element) e w = let bad : _≡_ {A = ℕ} 99 112 = cc in absurd (omega arith)
+
+pub count-back : (z : ℤ) → (Outside 32 z → ⊥) → (f : Field) → fieldText f ≡ 99 ∷ countText z → Writes f → HoldsCount f z
+count-back z h (Pattern digits place element) e w = let bad : _≡_ {A = ℕ} 112 99 = cc in absurd (omega arith)
+count-back z h (Count digits place element) e w =
+    let text : now digits ≡ countText z = cc in
+    count-same element z (w .0) h (w .1 ∙ text)

@@ -7,4 +7,5 @@ pub mod Leading
 pub mod Literals
 pub mod Entire
 pub mod Chunks
+pub mod Trips
 pub mod Outputs

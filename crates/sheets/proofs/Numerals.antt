@@ -89,6 +89,7 @@ decimal-last n h = decimal-by-steps (λ k ds. lastDigits 10 (length ds) k ≡ ds
         let e : k % 10 ≡ k = omega arith in
         let d : digitByte k ≡ 48 + k = cond-true (ltb k 10) (48 + k) (87 + k) (lt-ltb k 10 l) in
         ap (λ j. j ∷ []) (ap digitByte e ∙ d)
+
     more : (k : ℕ) (ds : List ℕ) → 10 ≤ k → lastDigits 10 (length ds) (k / 10) ≡ ds → lastDigits 10 (length (ds ++ ((48 + k % 10) ∷ []))) k ≡ ds ++ ((48 + k % 10) ∷ [])
     more k ds l e =
         let len : length (ds ++ ((48 + k % 10) ∷ [])) ≡ suc (length ds) = length-push ds (48 + k % 10) ∙ add-one (length ds) in
@@ -123,18 +124,25 @@ last-number radix (suc k) t p q d e = go (last-number radix k (take k t) p q)
   where
     b : ℕ
     b = getD t k 0
+
     split : t ≡ take k t ++ (b ∷ [])
     split = sym (take-all (k + 1) t (omega arith)) ∙ take-more t k 0 (omega arith)
+
     parts : AllDigits radix (take k t) × AllDigits radix (b ∷ [])
     parts = digits-parts radix (take k t) (b ∷ []) (subst (AllDigits radix) split d)
+
     number-is : numberOf radix t ≡ numberOf radix (take k t) * radix + worth b
     number-is = ap (numberOf radix) split ∙ number-push radix (take k t) b
+
     small : worth b < radix
     small = ltb-true (worth b) radix (parts .1 .0)
+
     quotient : numberOf radix t / radix ≡ numberOf radix (take k t)
     quotient = ap (λ n. n / radix) number-is ∙ mul-add-div-right p (numberOf radix (take k t)) (worth b) ∙ rw (div-eq-of-lt small) (add-zero (numberOf radix (take k t)))
+
     remainder : numberOf radix t % radix ≡ worth b
     remainder = ap (λ n. n % radix) number-is ∙ mul-add-mod-self-right (numberOf radix (take k t)) radix (worth b) ∙ mod-eq-of-lt small
+
     go : (AllDigits radix (take k t) → length (take k t) ≡ k → lastDigits radix k (numberOf radix (take k t)) ≡ take k t) → lastDigits radix k (numberOf radix t / radix) ++ (digitByte (numberOf radix t % radix) ∷ []) ≡ t
     go ih =
         let front : lastDigits radix k (numberOf radix t / radix) ≡ take k t = ap (lastDigits radix k) quotient ∙ ih (parts .0) (length-take-le k t (omega arith)) in

@@ -1,9 +1,10 @@
 -- A sheet line: its words, its fields, and what reading one answers.
-use Prim.Native.Nat.{ℕ, suc, _+_, _-_, _≤_, _<_}
+use Prim.Native.Nat.{ℕ, suc, _+_, _-_, _^_, _≤_, _<_}
 use mathlib.Core.Path.{_≡_}
 use mathlib.Core.List.{List, [], _∷_, _++_}
 use mathlib.Core.Logic.{_⊎_}
 use lib.Chars.{codes}
+use lib.IntN.{ℤ}
 use lib.ListN.{length, drop}
 use denote.Ref.{now}
 use Rattle.std.specs.Options.{Cases as BySome}
@@ -18,7 +19,7 @@ use Rattle.sheets.specs.declared.line.Line.{Line}
 use Rattle.sheets.specs.declared.line.Word.{Word}
 use Rattle.sheets.specs.declared.line.Word.the-variants.{Add, Sub}
 use Rattle.sheets.specs.declared.reader.Found.{Found}
-use Rattle.sheets.specs.Elements.{Closed, patternText, countText, NoPattern, NoCount}
+use Rattle.sheets.specs.Elements.{Closed, Outside, patternText, countText, NoPattern, NoCount}
 use Rattle.sheets.specs.Forms.{Form, end, Lang, Astray, reach}
 use Rattle.sheets.specs.Shapes.{fieldShape, pairShape, lineShape}
 
@@ -40,10 +41,19 @@ abbrev pub placeOf : Field → ℕ
 placeOf (Pattern digits place element) = place
 placeOf (Count digits place element) = place
 
--- the text is that of the element
+-- the element is one of its kind, and the text is its text
 abbrev pub Writes : Field → Type 0
-Writes (Pattern digits place element) = patternText element ≡ now digits
-Writes (Count digits place element) = countText element ≡ now digits
+Writes (Pattern digits place element) = (element < 2 ^ 64) × (patternText element ≡ now digits)
+Writes (Count digits place element) = (Outside 32 element → ⊥) × (countText element ≡ now digits)
+
+-- a field of patterns with that element, and one of counts
+abbrev pub HoldsPattern : Field → ℕ → Type 0
+HoldsPattern (Pattern digits place element) e = element ≡ e
+HoldsPattern (Count digits place element) e = ⊥
+
+abbrev pub HoldsCount : Field → ℤ → Type 0
+HoldsCount (Pattern digits place element) e = ⊥
+HoldsCount (Count digits place element) e = element ≡ e
 
 -- the bytes are a field whose number lies outside the range of its kind
 abbrev pub OutOfRange : List ℕ → Type 0
@@ -56,6 +66,13 @@ pub record Leads (letter : ℕ) (shape : Form → Form) (outside : List ℕ → 
   pub is-field : (text : List ℕ) → Lang (shape end) text → Lang (fieldShape end) (letter ∷ text)
   pub out : (text : List ℕ) → outside text → OutOfRange (letter ∷ text)
   pub only : (text : List ℕ) → OutOfRange (letter ∷ text) → outside text
+
+-- the text of an element is of its kind's shape and within its range, and only fields with that element have it
+pub record Stands (letter : ℕ) (shape : Form → Form) (outside : List ℕ → Type 0) (text : List ℕ) (holds : Field → Type 0) : Type 0 where
+  pub leads : Leads letter shape outside
+  pub is-shape : Lang (shape end) text
+  pub inside : outside text → ⊥
+  pub back : (f : Field) → fieldText f ≡ letter ∷ text → Writes f → holds f
 
 -- the field with these bytes at this place, and its element
 pub record IsField (text : List ℕ) (place : ℕ) (f : Field) : Type 0 where
@@ -117,3 +134,12 @@ pub record SecondOut (line : List ℕ) (e : Refusal) : Type 0 where
 abbrev pub ReadsLine : List ℕ → Result Line Refusal → Type 0
 ReadsLine bytes (Ok line) = IsLine bytes line
 ReadsLine bytes (Err e) = (Astray lineShape bytes (e .place) × Refused e 5 (e .place) 0) ⊎ (FirstOut bytes e ⊎ SecondOut bytes e)
+
+-- the answer to a line that was written: its word, and fields that hold its elements
+abbrev pub ReadsBack : Word → (Field → Type 0) → (Field → Type 0) → Result Line Refusal → Type 0
+ReadsBack word first second (Ok line) = (line .word ≡ word) × first (line .first) × second (line .second)
+ReadsBack word first second (Err e) = ⊥
+
+-- whatever the reader may answer to these bytes, it is the line that was written
+abbrev pub RoundTrip : List ℕ → Word → (Field → Type 0) → (Field → Type 0) → Type 0
+RoundTrip bytes word first second = (r : Result Line Refusal) → ReadsLine bytes r → ReadsBack word first second r

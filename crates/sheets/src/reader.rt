@@ -37,7 +37,10 @@ pub fn read_line<'a>(line: &'a [u8]) -> Result<Line<'a>, Refusal>
     ensures answer { λ r. ⌜ ReadsLine (now (line .entry)) r ⌝ }
 {
     let word = read_word(line)?;
-    let Found { end: tab, field: first } = read_field(line, FIRST)?;
+    let Found {
+        end: tab,
+        field: first,
+    } = read_field(line, FIRST)?;
     if tab >= line.len() {
         return Err(misshapen(tab));
     }
@@ -54,19 +57,31 @@ pub fn read_line<'a>(line: &'a [u8]) -> Result<Line<'a>, Refusal>
     let Some(second) = second else {
         return Err(out_of_range(tab + 1, Side::Second));
     };
-    Ok(Line { word, first, second })
+    Ok(Line {
+        word,
+        first,
+        second,
+    })
 }
 
 fn misshapen(place: usize) -> Refusal
     ensures answer { λ r. ⌜ Refused r 5 place 0 ⌝ }
 {
-    Refusal { reason: Reason::Shape, place: place as u64, side: Side::Neither }
+    Refusal {
+        reason: Reason::Shape,
+        place: place as u64,
+        side: Side::Neither,
+    }
 }
 
 fn out_of_range(place: usize, side: Side) -> Refusal
     ensures answer { λ r. ⌜ Refused r 6 place (sideOf side) ⌝ }
 {
-    Refusal { reason: Reason::CountRange, place: place as u64, side }
+    Refusal {
+        reason: Reason::CountRange,
+        place: place as u64,
+        side,
+    }
 }
 
 /// The word of a line that begins with one and a tab.
@@ -130,7 +145,10 @@ fn field_of<'a, K: Written>(line: &'a [u8], at: usize) -> Result<Found<'a>, Refu
     match element {
         Some(element) => {
             let field = K::field(&line[at + 1..end], at as u64, element);
-            Ok(Found { end, field: Some(field) })
+            Ok(Found {
+                end,
+                field: Some(field),
+            })
         }
         None => Ok(Found { end, field: None }),
     }

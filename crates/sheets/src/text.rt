@@ -1,5 +1,6 @@
 //! A text under way: bytes that are put one behind the other before they go into a caller's slice.
 ghost use Prim.Native.Nat.{_≤_};
+
 mod compose;
 
 /// At most 80 bytes.

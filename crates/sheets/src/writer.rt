@@ -3,7 +3,7 @@ ghost use mathlib.Core.Path.{_≡_};
 ghost use mathlib.Core.List.{_∷_, _++_};
 ghost use Prim.Native.Nat.{_≤_};
 ghost use lib.ListN.{length};
-ghost use Rattle.sheets.specs.Lines.{wordText, lineText};
+ghost use Rattle.sheets.specs.Lines.{wordText, lineText, Stands, RoundTrip};
 ghost use Rattle.sheets.specs.Outputs.{textOf, Fits, handed};
 use crate::line::Word;
 use crate::text::Text;
@@ -12,9 +12,15 @@ use numbers::kind::Kind;
 use numbers::refusal::Refusal;
 
 /// Writes a line without a line feed. It takes every element of a kind.
-pub fn write_line<K: Written, L: Written>(word: Word, first: K::Element, second: L::Element, out: &mut [u8]) -> Result<usize, Refusal>
+pub fn write_line<K: Written, L: Written>(
+    word: Word,
+    first: K::Element,
+    second: L::Element,
+    out: &mut [u8],
+) -> Result<usize, Refusal>
     ensures answer { λ r. ⌜ Fits (lineText (wordText word) (K·Kind .letter ∷ K·Written .text first) (L·Kind .letter ∷ L·Written .text second)) (length (now (out .entry))) r ⌝ }
     ensures bytes { λ _. ⌜ now (out .exit) ≡ handed (lineText (wordText word) (K·Kind .letter ∷ K·Written .text first) (L·Kind .letter ∷ L·Written .text second)) (now (out .entry)) ⌝ }
+    ensures law { λ _. ⌜ RoundTrip (lineText (wordText word) (K·Kind .letter ∷ K·Written .text first) (L·Kind .letter ∷ L·Written .text second)) word (λ f. K·Written .holds f first) (λ f. L·Written .holds f second) ⌝ }
 {
     let mut text = Text::new();
     text.put_bytes(word_bytes(word));
@@ -37,6 +43,7 @@ fn put_field<K: Written>(element: K::Element, text: &mut Text)
     requires { ⌜ length (textOf (now text)) ≤ 60 ⌝ }
     ensures bytes { λ _. ⌜ textOf (now (text .exit)) ≡ textOf (now (text .entry)) ++ (9 ∷ (K·Kind .letter ∷ K·Written .text element)) ⌝ }
     ensures limits { λ _. ⌜ length (K·Written .text element) ≤ 16 ⌝ }
+    ensures law { λ _. ⌜ Stands (K·Kind .letter) (K·Written .shape) (K·Written .outside) (K·Written .text element) (λ f. K·Written .holds f element) ⌝ }
 {
     text.put_bytes(b"\t");
     text.put_byte(K::field_letter());

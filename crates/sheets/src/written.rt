@@ -6,8 +6,9 @@ ghost use lib.ListN.{length, take};
 ghost use Rattle.numbers.specs.Units.{signed as withSign};
 ghost use Rattle.sheets.specs.Digits.{begins, numberOf, sizeRun};
 ghost use Rattle.sheets.specs.Elements.{patternText, countText, NoPattern, NoCount, ReadsText, Within};
-ghost use Rattle.sheets.specs.Forms.{Form, Lang, end};
-ghost use Rattle.sheets.specs.Lines.{fieldText, placeOf, Leads, Writes};
+ghost use Rattle.sheets.specs.Forms.{Form};
+ghost use Rattle.sheets.specs.declared.line.Field.{Field};
+ghost use Rattle.sheets.specs.Lines.{fieldText, placeOf, HoldsPattern, HoldsCount, Leads, Stands, Writes};
 ghost use Rattle.sheets.specs.Outputs.{textOf};
 ghost use Rattle.sheets.specs.Shapes.{patternShape, countShape};
 use crate::digits::Numeral;
@@ -37,6 +38,9 @@ pub trait Written: Kind {
     /// Whether a text of the shape writes a number outside the kind's range.
     ghost outside: { List ℕ → Type 0 };
 
+    /// Whether a field holds the element.
+    ghost holds: { Field → Self·Element → Type 0 };
+
     /// The text of an element at the front of `bytes`, or how many bytes go along with the shape before another byte or the end comes.
     fn read(bytes: &[u8]) -> Result<Read<Self::Element>, usize>
         ensures answer { λ r. ⌜ ReadsText shape text outside (now (bytes .entry)) r ⌝ }
@@ -52,26 +56,37 @@ pub trait Written: Kind {
     fn write(element: Self::Element) -> Text
         ensures bytes { λ r. ⌜ textOf r ≡ text element ⌝ }
         ensures limits { λ _. ⌜ length (text element) ≤ 16 ⌝ }
-        ensures law { λ _. ⌜ Lang (shape end) (text element) × (outside (text element) → ⊥) ⌝ };
+        ensures law { λ _. ⌜ Stands (Self·Kind .letter) shape outside (text element) (λ f. holds f element) ⌝ };
 }
 
 pub impl Written for Patterns as PatternsWritten {
     ghost shape = { patternShape };
+
     ghost text = { patternText };
+
     ghost outside = { NoPattern };
+
+    ghost holds = { HoldsPattern };
 
     fn read(bytes: &[u8]) -> Result<Read<u64>, usize> {
         let digits = pattern_digits();
         let numeral = read_digits(bytes, 16, digits);
         if numeral.count == digits {
-            Ok(Read { len: digits, element: Some(numeral.number) })
+            Ok(Read {
+                len: digits,
+                element: Some(numeral.number),
+            })
         } else {
             Err(numeral.count)
         }
     }
 
     fn field<'a>(digits: &'a [u8], place: u64, element: u64) -> Field<'a> {
-        Field::Pattern { digits, place, element }
+        Field::Pattern {
+            digits,
+            place,
+            element,
+        }
     }
 
     fn write(element: u64) -> Text {
@@ -92,12 +107,19 @@ const COUNT_DIGITS: usize = 10;
 
 pub impl Written for Counts as CountsWritten {
     ghost shape = { countShape };
+
     ghost text = { countText };
+
     ghost outside = { NoCount };
+
+    ghost holds = { HoldsCount };
 
     fn read(bytes: &[u8]) -> Result<Read<i32>, usize> {
         if begins_with(bytes, b'0') {
-            return Ok(Read { len: 1, element: Some(0) });
+            return Ok(Read {
+                len: 1,
+                element: Some(0),
+            });
         }
         let negative = begins_with(bytes, b'-');
         let sign = if negative { 1 } else { 0 };
@@ -105,11 +127,18 @@ pub impl Written for Counts as CountsWritten {
         if size.count == 0 {
             return Err(sign);
         }
-        Ok(Read { len: sign + size.count, element: count_of(negative, size.number) })
+        Ok(Read {
+            len: sign + size.count,
+            element: count_of(negative, size.number),
+        })
     }
 
     fn field<'a>(digits: &'a [u8], place: u64, element: i32) -> Field<'a> {
-        Field::Count { digits, place, element }
+        Field::Count {
+            digits,
+            place,
+            element,
+        }
     }
 
     fn write(element: i32) -> Text {
@@ -138,7 +167,10 @@ fn read_size(bytes: &[u8]) -> Numeral
     ensures value { λ r. ⌜ r .number ≡ numberOf 10 (take (r .count) (now (bytes .entry))) ⌝ }
 {
     if begins_with(bytes, b'0') {
-        return Numeral { count: 0, number: 0 };
+        return Numeral {
+            count: 0,
+            number: 0,
+        };
     }
     read_digits(bytes, 10, COUNT_DIGITS)
 }

@@ -9,6 +9,7 @@ ghost use Rattle.sheets.specs.Splitting.{feedAt, held, current, last, Took, Af
 use crate::splitter::Splitter;
 
 const LINE_FEED: u8 = b'\n';
+
 const KEPT: usize = 40;
 
 impl Splitter {
@@ -16,7 +17,12 @@ impl Splitter {
     pub fn new() -> Self
         ensures law { λ r. ⌜ After [] r ⌝ }
     {
-        Splitter { bytes: [0; 40], len: 0, number: 1, complete: false }
+        Splitter {
+            bytes: [0; 40],
+            len: 0,
+            number: 1,
+            complete: false,
+        }
     }
 
     /// Takes the bytes of the chunk up to the next line feed, that one too, and says how many it took.
@@ -39,7 +45,8 @@ impl Splitter {
     pub fn is_complete(&self) -> bool
         ensures answer { λ r. ⌜ r ≡ now (self .entry) .complete ⌝ }
     {
-        self.complete
+        let complete = self.complete;
+        complete
     }
 
     /// Whether bytes have come behind the last line feed: a last line, if no more are to come.
@@ -53,7 +60,8 @@ impl Splitter {
     pub fn number(&self) -> u64
         ensures answer { λ r. ⌜ r ≡ now (self .entry) .number ⌝ }
     {
-        self.number
+        let number = self.number;
+        number
     }
 
     /// The line that it holds, or its first 40 bytes.

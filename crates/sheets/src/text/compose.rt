@@ -13,13 +13,17 @@ use numbers::refusal::Refusal;
 use numbers::refusal::Side;
 
 const ROOM: usize = 80;
+
 const MOST_DIGITS: usize = 20;
 
 impl Text {
     pub(crate) fn new() -> Self
         ensures bytes { λ r. ⌜ textOf r ≡ [] ⌝ }
     {
-        Text { bytes: [0; 80], len: 0 }
+        Text {
+            bytes: [0; 80],
+            len: 0,
+        }
     }
 
     /// Puts a byte behind the text, if it has room.
@@ -80,7 +84,11 @@ impl Text {
     {
         let n = self.len;
         if out.len() < n {
-            return Err(Refusal { reason: Reason::OutputShort, place: n as u64, side: Side::Neither });
+            return Err(Refusal {
+                reason: Reason::OutputShort,
+                place: n as u64,
+                side: Side::Neither,
+            });
         }
         out[0..n].copy_from_slice(&self.bytes[0..n]);
         Ok(n)

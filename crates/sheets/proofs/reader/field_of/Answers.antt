@@ -32,9 +32,11 @@ returns-in-Some g c =
     let text-at : TextAt (g .K·Written .shape) (g .K·Written .text) (g .K·Written .outside) (drop (at + 1) line) read = subst (λ b. TextAt (g .K·Written .shape) (g .K·Written .text) (g .K·Written .outside) b read) (take-rest line (at + 1)) (c .in-Ok .ensures tt .answer) in
     let len : at + 1 + read .len - (at + 1) ≡ read .len = omega arith in
     let digits : take (at + 1 + read .len - (at + 1)) (drop (at + 1) line) ≡ take (read .len) (drop (at + 1) line) = ap (λ k. take k (drop (at + 1) line)) len in
-    record { answer =
-      field-some line at (g .K·Kind .letter) (c .pre .1) (c .pre .0) law read text-at (c .in-Some .element) (c .in-Some .is) (c .field-field .result)
-        (c .field-field .ensures .bytes ∙ ap (λ t. g .K·Kind .letter ∷ t) digits) (c .field-field .ensures .answer) (λ e. c .field-field .ensures .value (e ∙ sym digits)) }
+    record {
+      answer =
+          field-some line at (g .K·Kind .letter) (c .pre .1) (c .pre .0) law read text-at (c .in-Some .element) (c .in-Some .is) (c .field-field .result)
+          (c .field-field .ensures .bytes ∙ ap (λ t. g .K·Kind .letter ∷ t) digits) (c .field-field .ensures .answer) (λ e. c .field-field .ensures .value (e ∙ sym digits));
+    }
 
 pub returns-in-None : need.returns-in-None
 returns-in-None g c =

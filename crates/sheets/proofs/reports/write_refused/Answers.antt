@@ -32,5 +32,5 @@ pub returns : need.returns
 returns c =
     record {
       answer = subst (λ t. Fits t (length (c .args .out .now)) (c .copy-to .result)) (whole c) (c .copy-to .ensures .answer);
-      bytes = c .copy-to .ensures .bytes ∙ ap (λ t. handed t (c .args .out .now)) (whole c)
+      bytes = c .copy-to .ensures .bytes ∙ ap (λ t. handed t (c .args .out .now)) (whole c);
     }

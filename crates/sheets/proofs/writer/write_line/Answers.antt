@@ -10,6 +10,7 @@ use Rattle.sheets.specs.declared.line.Word.the-variants.{Add, Sub}
 use Rattle.sheets.specs.Lines.{wordText, lineText}
 use Rattle.sheets.specs.Outputs.{textOf, put, Fits, handed}
 use Rattle.sheets.proofs.Outputs.{put-on}
+use Rattle.sheets.proofs.Trips.{trip}
 use Rattle.sheets.proofs.writer.write_line.Needs as need
 
 word-length : (w : Word) → length (wordText w) ≡ 3
@@ -33,8 +34,8 @@ put-field-requires g c κs =
 pub put-field-requires-2 : need.put-field-requires-2
 put-field-requires-2 g c κs =
     second-room (c .args .word) (textOf (c .put-bytes .last .self)) (textOf (c .put-field .last .text)) (g .K·Written .text (c .args .first)) (g .K·Kind .letter)
-      (word-put (c .args .word) (textOf (c .new-text .result)) (c .word-bytes .result .now) (textOf (c .put-bytes .last .self)) (c .new-text .ensures .bytes) (c .word-bytes .ensures .bytes) (c .put-bytes .ensures .bytes))
-      (c .put-field .ensures .bytes) (c .put-field .ensures .limits)
+    (word-put (c .args .word) (textOf (c .new-text .result)) (c .word-bytes .result .now) (textOf (c .put-bytes .last .self)) (c .new-text .ensures .bytes) (c .word-bytes .ensures .bytes) (c .put-bytes .ensures .bytes))
+    (c .put-field .ensures .bytes) (c .put-field .ensures .limits)
 
 pub returns : need.returns
 returns g c =
@@ -44,5 +45,6 @@ returns g c =
     let whole : textOf (c .put-field-2 .last .text) ≡ lineText (wordText (c .args .word)) first second = c .put-field-2 .ensures .bytes ∙ ap (λ t. t ++ (9 ∷ second)) (c .put-field .ensures .bytes ∙ ap (λ t. t ++ (9 ∷ first)) word) in
     record {
       answer = subst (λ t. Fits t (length (c .args .out .now)) (c .copy-to .result)) whole (c .copy-to .ensures .answer);
-      bytes = c .copy-to .ensures .bytes ∙ ap (λ t. handed t (c .args .out .now)) whole
+      bytes = c .copy-to .ensures .bytes ∙ ap (λ t. handed t (c .args .out .now)) whole;
+      law = trip (c .args .word) (g .K·Kind .letter) (g .L·Kind .letter) (g .K·Written .text (c .args .first)) (g .L·Written .text (c .args .second)) (λ f. g .K·Written .holds f (c .args .first)) (λ f. g .L·Written .holds f (c .args .second)) (c .put-field .ensures .law) (c .put-field-2 .ensures .law);
     }

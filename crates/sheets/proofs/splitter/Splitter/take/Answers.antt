@@ -28,7 +28,7 @@ returns-then-at-chunk c =
     let number-is = c .keep .ensures .unchanged .0 ∙ c .begin .ensures .count in
     record {
       answer = fed-line before _ chunk at (held kept) (omega arith) at-is fed refl refl number-is;
-      law = took-after before _ chunk (at + 1) (fed-line before _ chunk at (held kept) (omega arith) at-is fed refl refl number-is)
+      law = took-after before _ chunk (at + 1) (fed-line before _ chunk at (held kept) (omega arith) at-is fed refl refl number-is);
     }
 
 pub returns : need.returns
@@ -44,11 +44,11 @@ returns c =
     let open-still : kept .complete ≡ false = c .keep .ensures .unchanged .1 ∙ c .begin .ensures .after in
     let within = feed-within chunk in
     let took : Took before chunk at kept =
-      record {
-        within = omega arith;
-        lines = ap (λ n. ended (current before) (take n chunk)) at-is ∙ fed .0 ∙ sym (cond-false (kept .complete) (held kept ∷ []) [] open-still);
-        line = ap (λ n. begun (current before) (take n chunk)) at-is ∙ fed .1 ∙ sym kept-is ∙ sym (cond-false (kept .complete) [] (held kept) open-still);
-        all = λ e. omega arith;
-        number = c .keep .ensures .unchanged .0 ∙ c .begin .ensures .count
-      } in
+    record {
+      within = omega arith;
+      lines = ap (λ n. ended (current before) (take n chunk)) at-is ∙ fed .0 ∙ sym (cond-false (kept .complete) (held kept ∷ []) [] open-still);
+      line = ap (λ n. begun (current before) (take n chunk)) at-is ∙ fed .1 ∙ sym kept-is ∙ sym (cond-false (kept .complete) [] (held kept) open-still);
+      all = λ e. omega arith;
+      number = c .keep .ensures .unchanged .0 ∙ c .begin .ensures .count;
+    } in
     record { answer = took; law = took-after before kept chunk at took }

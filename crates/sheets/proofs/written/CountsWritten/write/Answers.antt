@@ -14,6 +14,7 @@ use Rattle.std.proofs.shelf.Signed.{toZ-ofZ}
 use Rattle.sheets.specs.Elements.{Outside, countText}
 use Rattle.sheets.specs.Outputs.{textOf, put}
 use Rattle.sheets.proofs.Counted.{Spelled, spelled-count, inside, sign-text, spelled}
+use Rattle.sheets.proofs.Leading.{count-leads, count-back}
 use Rattle.sheets.proofs.Outputs.{put-on, length-decimal}
 use Rattle.sheets.proofs.written.CountsWritten.write.Needs as need
 use Rattle.sheets.proofs.written.CountsWritten.write.Needs.{then-element-lt0, else-element-lt0}
@@ -28,8 +29,8 @@ returns c =
     let before = textOf (c .if-element-lt0 .text) in
     let after = textOf (c .put-decimal .last .self) in
     let whole : textOf (c .put-decimal .last .self) ≡ countText z =
-      elim (c .if-element-lt0 .came) [
-        then-element-lt0 w ↦
+    elim (c .if-element-lt0 .came) [
+      | then-element-lt0 w ↦
           (let sign : textOf (w .put-bytes .last .self) ≡ 45 ∷ [] = put-on (textOf (c .new-text .result)) (textOf (w .put-bytes .last .self)) [] (45 ∷ []) (w .put-bytes .ensures .bytes) (c .new-text .ensures .bytes) (omega arith) in
           let text = put-on before after (45 ∷ []) (decimal (c .from .result)) (c .put-decimal .ensures .bytes) (ap textOf (w .text-is) ∙ sign) (omega arith) in
           let below : ltZ z (pos 0) ≡ true = ap (λ y. ltZ y (pos 0)) (sym same) ∙ w .if-element-lt0 .taken in
@@ -37,9 +38,10 @@ returns c =
       | else-element-lt0 w ↦
           (let text = put-on before after [] (decimal (c .from .result)) (c .put-decimal .ensures .bytes) (ap textOf (w .text-is) ∙ c .new-text .ensures .bytes) (omega arith) in
           let above : ltZ z (pos 0) ≡ false = ap (λ y. ltZ y (pos 0)) (sym same) ∙ w .if-element-lt0 .left in
-          text ∙ ap decimal size-is ∙ sym (sign-text z ∙ ap (λ b. spelled b (decimal (natAbs z))) above)) ] in
+          text ∙ ap decimal size-is ∙ sym (sign-text z ∙ ap (λ b. spelled b (decimal (natAbs z))) above))
+    ] in
     record {
       bytes = whole;
       limits = s .short;
-      law = (s .is-shape, λ bad. inside z (c .fits .element) (subst (Outside 32) (s .number-is) bad))
+      law = record { leads = count-leads; is-shape = s .is-shape; inside = λ bad. inside z (c .fits .element) (subst (Outside 32) (s .number-is) bad); back = count-back z (inside z (c .fits .element)) };
     }

@@ -11,6 +11,7 @@ use Rattle.sheets.specs.Elements.{patternText}
 use Rattle.sheets.specs.Outputs.{textOf}
 use Rattle.sheets.specs.Shapes.{patternShape}
 use Rattle.sheets.proofs.Fields.{digits-repeat}
+use Rattle.sheets.proofs.Leading.{pattern-leads, pattern-back}
 use Rattle.sheets.proofs.Numerals.{digits-last}
 use Rattle.sheets.proofs.Outputs.{put-on, length-last}
 use Rattle.sheets.proofs.written.PatternsWritten.write.Needs as need
@@ -25,5 +26,5 @@ returns c =
     record {
       bytes = put-on (textOf (c .new-text .result)) (textOf (c .put-digits .last .self)) [] (lastDigits 16 16 element) (subst (λ k. textOf (c .put-digits .last .self) ≡ Rattle.sheets.specs.Outputs.put (textOf (c .new-text .result)) (lastDigits 16 k element)) sixteen put-is) (c .new-text .ensures .bytes) (omega arith);
       limits = omega arith;
-      law = (digits-repeat 16 refl 16 (lastDigits 16 16 element) (digits-last 16 16 element (lit< tt) (lit≤ tt)) len, λ bad. bad)
+      law = record { leads = pattern-leads; is-shape = digits-repeat 16 refl 16 (lastDigits 16 16 element) (digits-last 16 16 element (lit< tt) (lit≤ tt)) len; inside = λ bad. bad; back = pattern-back element (c .fits .element .fits) };
     }
