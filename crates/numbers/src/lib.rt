@@ -7,3 +7,5 @@ pub mod patterns;
 pub mod piece;
 pub mod product;
 pub mod refusal;
+#[cfg(test)]
+mod tests;

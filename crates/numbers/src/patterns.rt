@@ -8,6 +8,12 @@ use crate::factor::Factor;
 use crate::kind::Kind;
 use crate::refusal::Reason;
 
+/// The exponent field of the patterns of 2^-511.
+const LOWEST_FIELD: u64 = 512;
+
+/// The exponent field of the largest patterns below 2^484.
+const HIGHEST_FIELD: u64 = 1506;
+
 /// Binary64 patterns of IEEE 754.
 #[derive(Drop)]
 pub struct Patterns;
@@ -46,7 +52,7 @@ pub impl Kind for Patterns as PatternsKind {
         if field == 0 && fraction == 0 {
             return Ok(Factor::ZERO);
         }
-        if field < 512 || field > 1506 || fraction % (1 << 27) != 0 {
+        if field < LOWEST_FIELD || field > HIGHEST_FIELD || fraction % (1 << 27) != 0 {
             return Err(Reason::NotFactor);
         }
         let significand = (1 << 25) + (fraction >> 27) as u32;
