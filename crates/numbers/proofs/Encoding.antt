@@ -15,7 +15,7 @@ use Rattle.std.proofs.shelf.Tests.{ne-eqb, eq-eqb, cond-false, cond-true}
 use Rattle.numbers.specs.declared.factor.Factor.{Factor}
 use Rattle.numbers.specs.declared.refusal.Reason.{Reason}
 use Rattle.numbers.specs.Acceptance.{FactorValue, Acceptable, Answers}
-use Rattle.numbers.specs.Patterns.{signOf, fieldOf, fractionOf, patternSize, patternValue, zeroPattern}
+use Rattle.numbers.specs.Patterns.{signOf, fieldOf, fractionOf, patternSize, patternValue, zeroPattern, PatternFactor}
 use Rattle.numbers.specs.Products.{factorUnits}
 use Rattle.numbers.specs.Refusals.{codeOf}
 use Rattle.numbers.specs.Units.{rank, signed, units}
@@ -90,10 +90,10 @@ finite-value b h = cond-false _ _ _ (ne-eqb (fieldOf b) 2047 h)
 
 -- the answers, by the parts of a pattern
 
-pub zero-test : (b : ℕ) → fieldOf b ≡ 0 → fractionOf b ≡ 0 → zeroPattern b ≡ true
+zero-test : (b : ℕ) → fieldOf b ≡ 0 → fractionOf b ≡ 0 → zeroPattern b ≡ true
 zero-test b f t = eq-eqb (patternSize (fieldOf b) (fractionOf b)) 0 (ap (λ (x : ℕ). patternSize x (fractionOf b)) f ∙ t)
 
-pub some-test : (b : ℕ) → (patternSize (fieldOf b) (fractionOf b) ≡ 0 → ⊥) → zeroPattern b ≡ false
+some-test : (b : ℕ) → (patternSize (fieldOf b) (fractionOf b) ≡ 0 → ⊥) → zeroPattern b ≡ false
 some-test b h = ne-eqb (patternSize (fieldOf b) (fractionOf b)) 0 h
 
 pub not-zero : (b : ℕ) → ((fieldOf b ≡ 0) → (fractionOf b ≡ 0) → ⊥) → patternSize (fieldOf b) (fractionOf b) ≡ 0 → ⊥
@@ -108,15 +108,24 @@ zero-answer b f n h t m =
     let v : signed (signOf b) (patternSize (fieldOf b) (fractionOf b)) ≡ pos 0 = ap (λ (x : ℕ). signed (signOf b) (patternSize x (fractionOf b))) h ∙ ap (signed (signOf b)) t ∙ signed-zero (signOf b) in
     subst (λ (o : Option ℤ). Answers o (Ok f)) (sym (finite-value b n ∙ ap Some v)) ((subst FactorValue is (own-value f), inl refl), is)
 
+pub zero-factor : (b : ℕ) (f : Factor) → fieldOf b ≡ 0 → fractionOf b ≡ 0 → f .significand ≡ 0 → PatternFactor b f
+zero-factor b f h t m =
+    let z = zero-test b h t in
+    record { sign-is = f .plus m ∙ sym (cond-true _ _ _ z); significand-is = m ∙ sym (cond-true _ _ _ z); exponent-is = f .plain m ∙ sym (cond-true _ _ _ z) }
+
 pub refused-answer : (b : ℕ) (r : Reason) → (fieldOf b ≡ 2047 → ⊥) → (patternSize (fieldOf b) (fractionOf b) ≡ 0 → ⊥)
     → (fieldOf b < 512) ⊎ ((1506 < fieldOf b) ⊎ (fractionOf b % 2 ^ 27 ≡ 0 → ⊥)) → codeOf r ≡ 2 → Answers (patternValue b) (Err r)
 refused-answer b r n nz why code =
     let small : fractionOf b < 2 ^ 52 = omega arith in
     subst (λ (o : Option ℤ). Answers o (Err r)) (sym (finite-value b n)) (not-acceptable (signOf b) (fieldOf b) (fractionOf b) small nz why, code)
 
-pub made-answer : (b : ℕ) (f : Factor) → (fieldOf b ≡ 2047 → ⊥) → 512 ≤ fieldOf b → fieldOf b ≤ 1506 → fractionOf b % 2 ^ 27 ≡ 0
+-- a factor's exponent has its limits, and so has the field
+field-low : (f : Factor) (field : ℕ) → f .exponent ≡ pos field -ℤ pos 1048 → 512 ≤ field
+field-low f field e = omega (arith, ints, f .low)
+
+pub made-answer : (b : ℕ) (f : Factor) → (fieldOf b ≡ 2047 → ⊥) → fractionOf b % 2 ^ 27 ≡ 0
     → f .negative ≡ signOf b → f .significand ≡ 2 ^ 25 + fractionOf b / 2 ^ 27 → f .exponent ≡ pos (fieldOf b) -ℤ pos 1048 → Answers (patternValue b) (Ok f)
-made-answer b f n low high even sign m e = subst (λ (o : Option ℤ). Answers o (Ok f)) (sym (finite-value b n)) (go (fieldOf b) low high e)
+made-answer b f n even sign m e = subst (λ (o : Option ℤ). Answers o (Ok f)) (sym (finite-value b n)) (go (fieldOf b) (field-low f (fieldOf b) e) e)
   where
     t : ℕ
     t = fractionOf b
@@ -124,9 +133,9 @@ made-answer b f n low high even sign m e = subst (λ (o : Option ℤ). Answers o
     s : Bool
     s = signOf b
 
-    go : (field : ℕ) → 512 ≤ field → field ≤ 1506 → f .exponent ≡ pos field -ℤ pos 1048 → Acceptable (signed s (patternSize field t)) × (factorUnits f ≡ signed s (patternSize field t))
-    go zero lo hi ex = absurd (omega arith)
-    go (suc x) lo hi ex =
+    go : (field : ℕ) → 512 ≤ field → f .exponent ≡ pos field -ℤ pos 1048 → Acceptable (signed s (patternSize field t)) × (factorUnits f ≡ signed s (patternSize field t))
+    go zero lo ex = absurd (omega arith)
+    go (suc x) lo ex =
         let k : rank (f .exponent) ≡ x + 27 = omega (arith, ints, rank-is (f .exponent) (omega (arith, ints)), ex) in
         let is : factorUnits f ≡ signed s ((2 ^ 52 + t) * 2 ^ x) = ap₂ (λ (p : Bool) (q : ℕ). units p q (f .exponent)) sign m ∙ accepted-value s x t (f .exponent) even k in
         let reach : 2 ^ 563 ≤ (2 ^ 52 + t) * 2 ^ x = le-trans (pow-mono (reached x lo)) (size-above x t) in
@@ -134,3 +143,9 @@ made-answer b f n low high even sign m e = subst (λ (o : Option ℤ). Answers o
       where
         reached : (y : ℕ) → 512 ≤ suc y → 563 ≤ 52 + y
         reached y h = omega arith
+
+pub made-factor : (b : ℕ) (f : Factor) → f .negative ≡ signOf b → f .significand ≡ 2 ^ 25 + fractionOf b / 2 ^ 27 → f .exponent ≡ pos (fieldOf b) -ℤ pos 1048 → PatternFactor b f
+made-factor b f sign m e =
+    let low = field-low f (fieldOf b) e in
+    let z = some-test b (not-zero b (λ h t. omega arith)) in
+    record { sign-is = sign ∙ sym (cond-false _ _ _ z); significand-is = m ∙ sym (cond-false _ _ _ z); exponent-is = e ∙ sym (cond-false _ _ _ z) }

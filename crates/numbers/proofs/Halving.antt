@@ -88,10 +88,6 @@ negative-is w z e = ap (λ (x : ℤ). ltZ x (pos 0)) e ∙ go z
     go (pos n) = le-ltb n 0 (omega arith)
     go (negsuc n) = refl
 
-pub zero-plus : (z : ℤ) → natAbs z ≡ 0 → isNegative z ≡ false
-zero-plus (pos n) h = refl
-zero-plus (negsuc n) h = absurd (omega arith)
-
 -- an accepted count
 pub count-accepted : (z : ℤ) (s : Bool) (m h : ℕ) (e : ℤ) → m < 2 ^ 26 → h ≤ 6 → natAbs z ≡ m * 2 ^ h → e ≡ pos h → s ≡ isNegative z
     → Acceptable (z *ℤ oneUnits) × (units s m e ≡ z *ℤ oneUnits)
