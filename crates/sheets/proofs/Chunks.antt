@@ -12,7 +12,7 @@ use Rattle.std.proofs.shelf.Lists.{drop-more, drop-all, take-more, take-all, ap
 use Rattle.std.proofs.shelf.Tests.{eqb-true, eq-eqb, ne-eqb, cond-true, cond-false, cases-lt, lt-ltb, both-ways}
 use Rattle.std.specs.Orderings.{When}
 use Rattle.sheets.specs.declared.splitter.Splitter.{Splitter}
-use Rattle.sheets.specs.Splitting.{longer, ended, begun, last, sheetLines, feedAt, held, current, yielded, Took, After}
+use Rattle.sheets.specs.Splitting.{longer, ended, begun, last, sheetLines, feedAt, held, current, yielded, Parting, Took, After}
 
 -- bytes in two chunks
 pub ended-join : (line a b : List ℕ) → ended line (a ++ b) ≡ ended line a ++ ended (begun line a) b
@@ -156,4 +156,30 @@ fed-line before after chunk at kept h at-is fed kept-is complete number =
       line = ap (λ n. begun (current before) (take (n + 1) chunk)) at-is ∙ fed .1 ∙ sym (cond-true (after .complete) [] (held after) complete);
       all = λ e. absurd (both-ways (after .complete) e complete);
       number = number;
+    }
+
+-- the lines of a sheet, line by line
+plain-line : (line : List ℕ) → feedAt line ≡ length line → (ended [] line ≡ []) × (begun [] line ≡ take 40 line)
+plain-line line e =
+    let whole : take (feedAt line) line ≡ line = take-all (feedAt line) line (omega arith) in
+    let h = before-feed [] line (omega arith) in
+    (subst (λ t. ended [] t ≡ []) whole (h .0), subst (λ t. begun [] t ≡ take 40 t) whole (h .1))
+
+last-some : (t : List ℕ) → 0 < length t → last t ≡ t ∷ []
+last-some [] h = absurd (omega arith)
+last-some (b ∷ bs) h = refl
+
+pub parting : Parting
+parting =
+    record {
+      none = refl;
+      first = λ line rest e.
+          (let p = plain-line line e in
+          let lines : ended [] (line ++ (10 ∷ rest)) ≡ take 40 line ∷ ended [] rest = ended-join [] line (10 ∷ rest) ∙ ap (λ t. t ++ (begun [] line ∷ ended [] rest)) (p .0) ∙ ap (λ t. t ∷ ended [] rest) (p .1) in
+          let line-is : begun [] (line ++ (10 ∷ rest)) ≡ begun [] rest = begun-join [] line (10 ∷ rest) in
+          ap (λ t. t ++ last (begun [] (line ++ (10 ∷ rest)))) lines ∙ ap (λ t. take 40 line ∷ (ended [] rest ++ last t)) line-is);
+      rest = λ line e h.
+          (let p = plain-line line e in
+          let some : 0 < length (take 40 line) = simp length-take (omega arith) in
+          ap (λ t. t ++ last (begun [] line)) (p .0) ∙ ap last (p .1) ∙ last-some (take 40 line) some);
     }

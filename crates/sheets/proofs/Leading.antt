@@ -24,7 +24,7 @@ use Rattle.sheets.specs.declared.written.Read.{Read}
 use Rattle.sheets.specs.Elements.{TextAt, Closed, Outside, patternText, countText, NoPattern, NoCount}
 use Rattle.sheets.specs.Digits.{numberOf}
 use Rattle.sheets.specs.Forms.{Form, end, one, either, Lang, reach}
-use Rattle.sheets.specs.Lines.{Leads, IsField, FieldAt, OutOfRange, fieldText, placeOf, Writes, HoldsPattern, HoldsCount}
+use Rattle.sheets.specs.Lines.{Leads, IsField, FieldAt, OutOfRange, fieldText, placeOf, Writes, Proper, HoldsPattern, HoldsCount}
 use Rattle.sheets.specs.Shapes.{byte, literal, patternShape, countShape, fieldShape}
 use Rattle.sheets.proofs.Numerals.{number-last}
 
@@ -92,14 +92,15 @@ module _ (line : List ℕ) (at letter : ℕ) (is-letter : getD line at 0 ≡ let
         field-at r t None (subst OutOfRange (sym (field-bytes (r .len))) (leads .out bytes out))
 
     -- and else with the field that holds the element
-    pub field-some : (r : Read E) → TextAt shape text outside (drop (at + 1) line) r → (e : E) → r .element ≡ Some e → (f : Field) → fieldText f ≡ letter ∷ take (r .len) (drop (at + 1) line) → placeOf f ≡ at → (text e ≡ take (r .len) (drop (at + 1) line) → Writes f) → FieldAt line at (record { end = at + 1 + r .len; field = Some f })
-    field-some r t e some f holds place writes =
+    pub field-some : (r : Read E) → TextAt shape text outside (drop (at + 1) line) r → (e : E) → r .element ≡ Some e → (f : Field) → fieldText f ≡ letter ∷ take (r .len) (drop (at + 1) line) → placeOf f ≡ at → Proper f → (text e ≡ take (r .len) (drop (at + 1) line) → Writes f) → FieldAt line at (record { end = at + 1 + r .len; field = Some f })
+    field-some r t e some f holds place proper writes =
         let bytes = take (r .len) (drop (at + 1) line) in
         let is : (text e ≡ bytes) × (outside bytes → ⊥) = subst (λ o. BySome o (outside bytes) (λ e. (text e ≡ bytes) × (outside bytes → ⊥))) some (t .element-is) in
         field-at r t (Some f)
         (record {
           bytes-are = holds ∙ sym (field-bytes (r .len));
           place-is = place;
+          proper = proper;
           writes = writes (is .0);
           inside = λ out. is .1 (leads .only bytes (subst OutOfRange (field-bytes (r .len)) out));
         })
@@ -142,14 +143,14 @@ count-same y z h k e = same-from-signed y z (short y h) (short z k) e
         go (inl l) = omega arith
         go (inr l) = absurd (h (inl (omega (arith, ints))))
 
-pub pattern-back : (n : ℕ) → n < 2 ^ 64 → (f : Field) → fieldText f ≡ 112 ∷ patternText n → Writes f → HoldsPattern f n
-pattern-back n h (Pattern digits place element) e w =
+pub pattern-back : (n : ℕ) → n < 2 ^ 64 → (f : Field) → fieldText f ≡ 112 ∷ patternText n → Proper f → Writes f → HoldsPattern f n
+pattern-back n h (Pattern digits place element) e p w =
     let text : now digits ≡ patternText n = cc in
-    pattern-same element n (w .0) h (w .1 ∙ text)
-pattern-back n h (Count digits place element) e w = let bad : _≡_ {A = ℕ} 99 112 = cc in absurd (omega arith)
+    pattern-same element n p h (w ∙ text)
+pattern-back n h (Count digits place element) e p w = let bad : _≡_ {A = ℕ} 99 112 = cc in absurd (omega arith)
 
-pub count-back : (z : ℤ) → (Outside 32 z → ⊥) → (f : Field) → fieldText f ≡ 99 ∷ countText z → Writes f → HoldsCount f z
-count-back z h (Pattern digits place element) e w = let bad : _≡_ {A = ℕ} 112 99 = cc in absurd (omega arith)
-count-back z h (Count digits place element) e w =
+pub count-back : (z : ℤ) → (Outside 32 z → ⊥) → (f : Field) → fieldText f ≡ 99 ∷ countText z → Proper f → Writes f → HoldsCount f z
+count-back z h (Pattern digits place element) e p w = let bad : _≡_ {A = ℕ} 112 99 = cc in absurd (omega arith)
+count-back z h (Count digits place element) e p w =
     let text : now digits ≡ countText z = cc in
-    count-same element z (w .0) h (w .1 ∙ text)
+    count-same element z p h (w ∙ text)

@@ -9,3 +9,4 @@ pub mod Entire
 pub mod Chunks
 pub mod Trips
 pub mod Outputs
+pub mod Words

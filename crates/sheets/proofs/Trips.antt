@@ -161,7 +161,7 @@ trip w k l tk tl hk hl a b r read = go r read
     go : (r : Result Line Refusal) → ReadsLine (lineText (wordText w) (k ∷ tk) (l ∷ tl)) r → ReadsBack w hk hl r
     go (Ok line) is =
         let parts = parts-once (lineText (wordText w) (k ∷ tk) (l ∷ tl)) (wordText (line .word)) (fieldText (line .first)) (fieldText (line .second)) (wordText w) (k ∷ tk) (l ∷ tl) (is .parts) refl (three w) first in
-        (same-word (line .word) w (parts .0), a .back (line .first) (parts .1) (is .first-is .writes), b .back (line .second) (parts .2) (is .second-is .writes))
+        (same-word (line .word) w (parts .0), a .back (line .first) (parts .1) (is .first-is .proper) (is .first-is .writes), b .back (line .second) (parts .2) (is .second-is .proper) (is .second-is .writes))
     go (Err e) (inl h) = h .0 .none (line-lang w (k ∷ tk) (l ∷ tl) first second)
     go (Err e) (inr (inl h)) =
         let parts = parts-once (lineText (wordText w) (k ∷ tk) (l ∷ tl)) (h .word) (h .first) (h .second) (wordText w) (k ∷ tk) (l ∷ tl) (h .parts) refl (three w) first in

@@ -5,5 +5,6 @@ pub mod Shapes
 pub mod Elements
 pub mod Lines
 pub mod Outputs
+pub mod Copies
 pub mod Reports
 pub mod Splitting

@@ -41,10 +41,15 @@ abbrev pub placeOf : Field → ℕ
 placeOf (Pattern digits place element) = place
 placeOf (Count digits place element) = place
 
--- the element is one of its kind, and the text is its text
+-- the text is that of the element
 abbrev pub Writes : Field → Type 0
-Writes (Pattern digits place element) = (element < 2 ^ 64) × (patternText element ≡ now digits)
-Writes (Count digits place element) = (Outside 32 element → ⊥) × (countText element ≡ now digits)
+Writes (Pattern digits place element) = patternText element ≡ now digits
+Writes (Count digits place element) = countText element ≡ now digits
+
+-- the element is one of its kind
+abbrev pub Proper : Field → Type 0
+Proper (Pattern digits place element) = element < 2 ^ 64
+Proper (Count digits place element) = Outside 32 element → ⊥
 
 -- a field of patterns with that element, and one of counts
 abbrev pub HoldsPattern : Field → ℕ → Type 0
@@ -72,12 +77,13 @@ pub record Stands (letter : ℕ) (shape : Form → Form) (outside : List ℕ →
   pub leads : Leads letter shape outside
   pub is-shape : Lang (shape end) text
   pub inside : outside text → ⊥
-  pub back : (f : Field) → fieldText f ≡ letter ∷ text → Writes f → holds f
+  pub back : (f : Field) → fieldText f ≡ letter ∷ text → Proper f → Writes f → holds f
 
 -- the field with these bytes at this place, and its element
 pub record IsField (text : List ℕ) (place : ℕ) (f : Field) : Type 0 where
   pub bytes-are : fieldText f ≡ text
   pub place-is : placeOf f ≡ place
+  pub proper : Proper f
   pub writes : Writes f
   pub inside : OutOfRange text → ⊥
 

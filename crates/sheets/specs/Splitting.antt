@@ -34,6 +34,13 @@ abbrev pub feedAt : List ℕ → ℕ
 feedAt [] = 0
 feedAt (b ∷ bs) = cond (eqb b 10) 0 (suc (feedAt bs))
 
+-- What the lines of a sheet are, line by line: none of no bytes; the first 40 bytes of a line that a line feed ends, and then those of the rest; and the first 40 bytes of
+-- a last line that has some.
+pub record Parting : Type 0 where
+  pub none : sheetLines [] ≡ []
+  pub first : (line rest : List ℕ) → feedAt line ≡ length line → sheetLines (line ++ (10 ∷ rest)) ≡ take 40 line ∷ sheetLines rest
+  pub rest : (line : List ℕ) → feedAt line ≡ length line → 0 < length line → sheetLines line ≡ take 40 line ∷ []
+
 -- the line that a splitter holds, and the one that has begun, which is empty behind a line feed
 abbrev pub held : Splitter → List ℕ
 held s = take (s .len) (s .bytes)

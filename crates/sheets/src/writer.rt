@@ -3,12 +3,20 @@ ghost use mathlib.Core.Path.{_≡_};
 ghost use mathlib.Core.List.{_∷_, _++_};
 ghost use Prim.Native.Nat.{_≤_};
 ghost use lib.ListN.{length};
-ghost use Rattle.sheets.specs.Lines.{wordText, lineText, Stands, RoundTrip};
+ghost use Rattle.sheets.specs.Copies.{Copies, copied};
+ghost use Rattle.sheets.specs.Lines.{wordText, lineText, fieldText, Writes, Stands, RoundTrip};
 ghost use Rattle.sheets.specs.Outputs.{textOf, Fits, handed};
+use crate::line::Field;
+use crate::line::Line;
 use crate::line::Word;
+use crate::reader::read_line;
 use crate::text::Text;
+use crate::written::CountsWritten;
+use crate::written::PatternsWritten;
 use crate::written::Written;
+use numbers::counts::CountsKind;
 use numbers::kind::Kind;
+use numbers::patterns::PatternsKind;
 use numbers::refusal::Refusal;
 
 /// Writes a line without a line feed. It takes every element of a kind.
@@ -26,6 +34,23 @@ pub fn write_line<K: Written, L: Written>(
     text.put_bytes(word_bytes(word));
     put_field::<K>(first, &mut text);
     put_field::<L>(second, &mut text);
+    text.copy_to(out)
+}
+
+/// Reads a line and writes it again: what is written are the bytes that were read.
+pub fn copy_line(line: &[u8], out: &mut [u8]) -> Result<usize, Refusal>
+    ensures answer { λ r. ⌜ Copies (now (line .entry)) (length (now (out .entry))) r ⌝ }
+    ensures bytes { λ r. ⌜ now (out .exit) ≡ copied (now (line .entry)) (now (out .entry)) r ⌝ }
+{
+    let Line {
+        word,
+        first,
+        second,
+    } = read_line(line)?;
+    let mut text = Text::new();
+    text.put_bytes(word_bytes(word));
+    put_again(first, &mut text);
+    put_again(second, &mut text);
     text.copy_to(out)
 }
 
@@ -48,4 +73,16 @@ fn put_field<K: Written>(element: K::Element, text: &mut Text)
     text.put_bytes(b"\t");
     text.put_byte(K::field_letter());
     text.put_text(&K::write(element));
+}
+
+/// Puts a field that was read, by its element.
+fn put_again(field: Field<'_>, text: &mut Text)
+    requires { ⌜ length (textOf (now text)) ≤ 60 ⌝ }
+    ensures bytes { λ _. ⌜ (Writes (field .entry) → textOf (now (text .exit)) ≡ textOf (now (text .entry)) ++ (9 ∷ fieldText (field .entry))) ⌝ }
+    ensures limits { λ _. ⌜ (Writes (field .entry) → length (fieldText (field .entry)) ≤ 17) ⌝ }
+{
+    match field {
+        Field::Pattern { element, .. } => put_field::<PatternsWritten>(element, text),
+        Field::Count { element, .. } => put_field::<CountsWritten>(element, text),
+    }
 }

@@ -8,7 +8,7 @@ ghost use Rattle.sheets.specs.Digits.{begins, numberOf, sizeRun};
 ghost use Rattle.sheets.specs.Elements.{patternText, countText, NoPattern, NoCount, ReadsText, Within};
 ghost use Rattle.sheets.specs.Forms.{Form};
 ghost use Rattle.sheets.specs.declared.line.Field.{Field};
-ghost use Rattle.sheets.specs.Lines.{fieldText, placeOf, HoldsPattern, HoldsCount, Leads, Stands, Writes};
+ghost use Rattle.sheets.specs.Lines.{fieldText, placeOf, HoldsPattern, HoldsCount, Leads, Proper, Stands, Writes};
 ghost use Rattle.sheets.specs.Outputs.{textOf};
 ghost use Rattle.sheets.specs.Shapes.{patternShape, countShape};
 use crate::digits::Numeral;
@@ -50,7 +50,8 @@ pub trait Written: Kind {
     fn field<'a>(digits: &'a [u8], place: u64, element: Self::Element) -> Field<'a>
         ensures bytes { λ r. ⌜ fieldText r ≡ Self·Kind .letter ∷ now (digits .entry) ⌝ }
         ensures answer { λ r. ⌜ placeOf r ≡ place ⌝ }
-        ensures value { λ r. ⌜ (text element ≡ now (digits .entry) → Writes r) ⌝ };
+        ensures value { λ r. ⌜ (text element ≡ now (digits .entry) → Writes r) ⌝ }
+        ensures limits { λ r. ⌜ Proper r ⌝ };
 
     /// The text of the element. It is of the shape, and within the kind's range.
     fn write(element: Self::Element) -> Text

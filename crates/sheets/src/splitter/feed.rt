@@ -5,7 +5,7 @@ ghost use mathlib.Core.List.{List, [], _∷_, _++_};
 ghost use Prim.Native.Nat.{ℕ, _+_, _-_, _^_, min};
 ghost use lib.ListN.{take};
 ghost use Rattle.std.specs.Orderings.{When};
-ghost use Rattle.sheets.specs.Splitting.{feedAt, held, current, last, Took, After};
+ghost use Rattle.sheets.specs.Splitting.{feedAt, held, current, last, Parting, Took, After};
 use crate::splitter::Splitter;
 
 const LINE_FEED: u8 = b'\n';
@@ -15,7 +15,8 @@ const KEPT: usize = 40;
 impl Splitter {
     /// Before the first line.
     pub fn new() -> Self
-        ensures law { λ r. ⌜ After [] r ⌝ }
+        ensures after { λ r. ⌜ After [] r ⌝ }
+        ensures law { λ _. ⌜ Parting ⌝ }
     {
         Splitter {
             bytes: [0; 40],
@@ -29,7 +30,7 @@ impl Splitter {
     /// After a complete line it begins the next one.
     pub fn take(&mut self, chunk: &[u8]) -> usize
         ensures answer { λ r. ⌜ Took (now (self .entry)) (now (chunk .entry)) r (now (self .exit)) ⌝ }
-        ensures law { λ r. ⌜ ((past : List ℕ) → After past (now (self .entry)) → After (past ++ take r (now (chunk .entry))) (now (self .exit))) ⌝ }
+        ensures after { λ r. ⌜ ((past : List ℕ) → After past (now (self .entry)) → After (past ++ take r (now (chunk .entry))) (now (self .exit))) ⌝ }
     {
         self.begin();
         let at = line_feed_at(chunk);

@@ -35,7 +35,7 @@ returns-in-Some g c =
     record {
       answer =
           field-some line at (g .K·Kind .letter) (c .pre .1) (c .pre .0) law read text-at (c .in-Some .element) (c .in-Some .is) (c .field-field .result)
-          (c .field-field .ensures .bytes ∙ ap (λ t. g .K·Kind .letter ∷ t) digits) (c .field-field .ensures .answer) (λ e. c .field-field .ensures .value (e ∙ sym digits));
+          (c .field-field .ensures .bytes ∙ ap (λ t. g .K·Kind .letter ∷ t) digits) (c .field-field .ensures .answer) (c .field-field .ensures .limits) (λ e. c .field-field .ensures .value (e ∙ sym digits));
     }
 
 pub returns-in-None : need.returns-in-None

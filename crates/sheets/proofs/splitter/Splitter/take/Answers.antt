@@ -28,7 +28,7 @@ returns-then-at-chunk c =
     let number-is = c .keep .ensures .unchanged .0 ∙ c .begin .ensures .count in
     record {
       answer = fed-line before _ chunk at (held kept) (omega arith) at-is fed refl refl number-is;
-      law = took-after before _ chunk (at + 1) (fed-line before _ chunk at (held kept) (omega arith) at-is fed refl refl number-is);
+      after = took-after before _ chunk (at + 1) (fed-line before _ chunk at (held kept) (omega arith) at-is fed refl refl number-is);
     }
 
 pub returns : need.returns
@@ -51,4 +51,4 @@ returns c =
       all = λ e. omega arith;
       number = c .keep .ensures .unchanged .0 ∙ c .begin .ensures .count;
     } in
-    record { answer = took; law = took-after before kept chunk at took }
+    record { answer = took; after = took-after before kept chunk at took }
