@@ -10,19 +10,26 @@ use lib.Dec.{leb, lit≤}
 use lib.Arith.{digits-lt}
 use lib.IntN.{ℤ, pos, negsuc, negℤ, natAbs, _-ℤ_}
 use lib.Signed.{_≤ℤ_, _<ℤ_, clashℤ}
-use lib.Ieee.{Format, hid, ones, top}
+use lib.Ieee.{Format, binary32, binary64, hid, ones, top}
 use Rattle.std.proofs.shelf.Signed.{by-ltZ}
 use Rattle.std.specs.declared.option.Option.{Option}
 use Rattle.std.specs.declared.option.Option.the-variants.{Some}
 use Rattle.numbers.specs.Units.{signed}
 use Rattle.readings.specs.declared.forms.Direction.{Direction}
 use Rattle.readings.specs.declared.forms.Direction.the-variants.{Nearest, TowardZero, Up, Down}
+use Rattle.std.specs.declared.result.Result.{Result}
+use Rattle.std.specs.declared.result.Result.the-variants.{Ok, Err}
+use Rattle.numbers.specs.declared.refusal.Refusal.{Refusal}
+use Rattle.readings.specs.declared.forms.Form.{Form}
+use Rattle.readings.specs.declared.forms.Width.{Width}
+use Rattle.readings.specs.declared.forms.Width.the-variants.{Long, Short}
 use Rattle.readings.specs.Formats.{Encodes, encodedValue, lowest}
+use Rattle.readings.specs.Readings.{LongReading, ShortReading, TooLarge, shortLimit, ReadsIn}
 use Rattle.readings.specs.Rounding.{LeastAbove, GreatestBelow, distance, NoneNearer, Preferred, TieTaken, Directed, negative, Rounds}
-use Rattle.readings.specs.Laws.{Subnormal-value, Normal-value, At-most-one, Keeps-order, Exact, Up-law, Down-law, Toward-zero-law, Nearest-law, RoundingLaws}
+use Rattle.readings.specs.Laws.{Subnormal-value, Normal-value, At-most-one, Keeps-order, Exact, Up-law, Down-law, Toward-zero-law, Nearest-law, Tie-law, Zero-law, SameAnswer, One-answer, RoundingLaws}
 use Rattle.readings.proofs.Cases.{lt-or-ge}
 use Rattle.readings.proofs.Grid.{magnitude, magnitude-low, magnitude-field}
-use Rattle.readings.proofs.Patterns.{gridSize, places, place-encodes, place-value, Found, found, sign-of}
+use Rattle.readings.proofs.Patterns.{gridSize, places, places-lt, place-encodes, place-value, Found, found, sign-of}
 use Rattle.readings.proofs.Sizes.{grid-lt, grid-zero}
 use Rattle.readings.proofs.Directions.{places-pos, two-ones, rounded-rounds}
 
@@ -149,7 +156,7 @@ pub down-law : Down-law
 down-law f x b v r e = let d = directed-at f Down x b v r e in (d .0, λ c w g h l. clashℤ l (d .1 c w g h))
 
 pub nearest-law : Nearest-law
-nearest-law f x b c v w r e g = let d = directed-at f Nearest x b v r e in (d .0 c w g, λ h. d .1 c w g h .away)
+nearest-law f x b c v w r e g = let d = directed-at f Nearest x b v r e in (d .0 c w g, d .1 c w g)
 
 -- ---- the value of a pattern by its fields
 
@@ -186,6 +193,15 @@ toward-zero-law f (negsuc n) a b c u v w p q r e g h =
     let under : u ≤ℤ negsuc n = down-law f (negsuc n) a u p e .0 in
     (inr same, omega (arith, ints), le-of-eq (ap natAbs equal))
 
+pub tie-law : Tie-law
+tie-law b c v w p = p .away
+
+pub zero-law : Zero-law
+zero-law f d b r =
+    let e = exact f d (pos 0) b 0 (zero-encodes f) r in
+    let s : leb (top f) 0 ≡ false = sign-of f false 0 (places-lt f 0 (places-pos f)) in
+    one-pattern f b 0 (pos 0) (pos 0) refl (r .sign ∙ sym s) e (zero-encodes f)
+
 pub rounding-laws : RoundingLaws
 rounding-laws = record {
   subnormal-value = subnormal-value;
@@ -198,4 +214,33 @@ rounding-laws = record {
   down = down-law;
   toward-zero = toward-zero-law;
   nearest = nearest-law;
+  tie = tie-law;
+  zero = zero-law;
 }
+
+-- ---- readings
+
+-- two long readings of one total have one number
+same-long : (d : Direction) (x : ℤ) (b c : ℕ) (v w : ℤ) → LongReading d x b v → LongReading d x c w → v ≡ w
+same-long d x b c v w p q =
+    let e : b ≡ c = at-most-one binary64 d x b c (p .rounds) (q .rounds) in
+    one-value binary64 c v w (subst (λ (a : ℕ). Encodes binary64 a v) e (p .encodes)) (q .encodes)
+
+clash : (d : Direction) (x : ℤ) (b : ℕ) → ShortReading d x b → TooLarge d x → ⊥
+clash d x b p q =
+    let e : p .number ≡ q .number = same-long d x (p .pattern) (q .pattern) (p .number) (q .number) (p .long) (q .long) in
+    lt-irrefl shortLimit (lt-of-lt-of-le (q .large) (subst (λ (v : ℤ). natAbs v ≤ shortLimit) e (p .small)))
+
+one-in : (w : Width) (d : Direction) (x : ℤ) (r s : Result ℕ Refusal) → ReadsIn w d x r → ReadsIn w d x s → SameAnswer r s
+one-in Long d x (Ok a) (Ok b) p q = at-most-one binary64 d x a b p q
+one-in Long d x (Ok a) (Err e) p q = q
+one-in Long d x (Err e) s p q = absurd p
+one-in Short d x (Ok a) (Ok b) p q =
+    let e : p .number ≡ q .number = same-long d x (p .pattern) (q .pattern) (p .number) (q .number) (p .long) (q .long) in
+    at-most-one binary32 d (q .number) a b (subst (λ (v : ℤ). Rounds binary32 d v a) e (p .rounds)) (q .rounds)
+one-in Short d x (Ok a) (Err e) p q = clash d x a p (q .0)
+one-in Short d x (Err e) (Ok b) p q = clash d x b q (p .0)
+one-in Short d x (Err e) (Err g) p q = (p .1 .0 ∙ sym (q .1 .0), p .1 .1 ∙ sym (q .1 .1), p .1 .2 ∙ sym (q .1 .2))
+
+pub one-answer : One-answer
+one-answer form x r s p q = one-in (form .width) (form .direction) x r s p q

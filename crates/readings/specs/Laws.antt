@@ -7,11 +7,17 @@ use lib.IntN.{ℤ, pos, natAbs}
 use lib.Signed.{_≤ℤ_, _<ℤ_}
 use lib.Ieee.{Format, hid, ones, top}
 use Rattle.std.specs.declared.option.Option.the-variants.{Some}
+use Rattle.std.specs.declared.result.Result.{Result}
+use Rattle.std.specs.declared.result.Result.the-variants.{Ok, Err}
+use Rattle.numbers.specs.declared.refusal.Refusal.{Refusal}
+use Rattle.numbers.specs.Refusals.{codeOf, sideOf}
+use Rattle.readings.specs.declared.forms.Form.{Form}
 use Rattle.numbers.specs.Units.{signed}
 use Rattle.readings.specs.declared.forms.Direction.{Direction}
 use Rattle.readings.specs.declared.forms.Direction.the-variants.{Nearest, TowardZero, Up, Down}
 use Rattle.readings.specs.Formats.{Encodes, encodedValue, lowest, largest}
-use Rattle.readings.specs.Rounding.{distance, Rounds}
+use Rattle.readings.specs.Rounding.{distance, Preferred, Rounds}
+use Rattle.readings.specs.Readings.{Reads}
 use Rattle.readings.specs.Rounded.{rounded}
 
 -- the value of a pattern by its three fields: a field of 0 has no leading digit and counts as a field of 1
@@ -49,10 +55,18 @@ abbrev pub Toward-zero-law : Type 0
 Toward-zero-law = (f : Format) (x : ℤ) (a b c : ℕ) (u v w : ℤ) → Rounds f Down x a → Rounds f TowardZero x b → Rounds f Up x c
     → Encodes f a u → Encodes f b v → Encodes f c w → ((b ≡ a) ⊎ (b ≡ c)) × (natAbs v ≤ natAbs u) × (natAbs v ≤ natAbs w)
 
--- no number of the format is nearer to the total than the nearest, and one that is as near is not larger in size
+-- no number of the format is nearer to the total than the nearest, and over one that is as near the tie rule prefers it
 abbrev pub Nearest-law : Type 0
-Nearest-law = (f : Format) (x : ℤ) (b c : ℕ) (v w : ℤ) → Rounds f Nearest x b → Encodes f b v → Encodes f c w
-    → (distance x v ≤ distance x w) × (distance x v ≡ distance x w → natAbs w ≤ natAbs v)
+Nearest-law =
+    (f : Format) (x : ℤ) (b c : ℕ) (v w : ℤ) → Rounds f Nearest x b → Encodes f b v → Encodes f c w → (distance x v ≤ distance x w) × (distance x v ≡ distance x w → Preferred b v c w)
+
+-- the tie rule prefers the number that is larger in size
+abbrev pub Tie-law : Type 0
+Tie-law = (b c : ℕ) (v w : ℤ) → Preferred b v c w → natAbs w ≤ natAbs v
+
+-- a total of zero rounds to the pattern 0
+abbrev pub Zero-law : Type 0
+Zero-law = (f : Format) (d : Direction) (b : ℕ) → Rounds f d (pos 0) b → b ≡ 0
 
 -- all of them, under their names
 pub record RoundingLaws : Type 0 where
@@ -66,3 +80,18 @@ pub record RoundingLaws : Type 0 where
   pub down : Down-law
   pub toward-zero : Toward-zero-law
   pub nearest : Nearest-law
+  pub tie : Tie-law
+  pub zero : Zero-law
+
+-- ---- readings
+
+-- two answers are the same pattern, or refusals by the same numbers
+abbrev pub SameAnswer : Result ℕ Refusal → Result ℕ Refusal → Type 0
+SameAnswer (Ok a) (Ok b) = a ≡ b
+SameAnswer (Ok a) (Err e) = ⊥
+SameAnswer (Err e) (Ok b) = ⊥
+SameAnswer (Err e) (Err g) = (codeOf (e .reason) ≡ codeOf (g .reason)) × (e .place ≡ g .place) × (sideOf (e .side) ≡ sideOf (g .side))
+
+-- a total has one answer in each form, so that a short reading is refused exactly where the long one is too large
+abbrev pub One-answer : Type 0
+One-answer = (form : Form) (x : ℤ) (r s : Result ℕ Refusal) → Reads form x r → Reads form x s → SameAnswer r s
