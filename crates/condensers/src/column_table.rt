@@ -18,7 +18,7 @@ use numbers::refusal::Refusal;
 
 const COLUMNS: usize = 64;
 
-const CAPACITY: u64 = 67_108_864;
+const CAPACITY: u32 = 67_108_864;
 /// One more than the largest part.
 const PART: u64 = 0x1_0000_0000;
 
@@ -28,7 +28,7 @@ const WIDE_PART: u128 = 0x1_0000_0000;
 #[derive(Drop)]
 pub struct ColumnTable {
     columns: [i64; COLUMNS],
-    count: u64,
+    count: u32,
     ghost long: { length columns ≡ 64 },
     ghost bounded: { (j : ℕ) → natAbs (getD columns j (pos 0)) ≤ count * 4294967295 },
     ghost few: { count ≤ 67108864 },
@@ -184,11 +184,11 @@ pub impl Condenser for ColumnTable as ColumnCondenser {
     }
 
     fn put_count(&self) -> u64 {
-        self.count
+        self.count as u64
     }
 
     fn put_limit(&self) -> u64 {
-        CAPACITY
+        CAPACITY as u64
     }
 
     fn summand_count(&self) -> u64 {

@@ -23,13 +23,13 @@ use numbers::refusal::Refusal;
 
 const PLACES: usize = 4096;
 
-const CAPACITY: u64 = 67_108_864;
+const CAPACITY: u32 = 67_108_864;
 
 /// Binary64 numbers by place. An empty place holds +0; any other holds a number that belongs there.
 #[derive(Drop)]
 pub struct PairingTable {
     entries: [f64; PLACES],
-    count: u64,
+    count: u32,
     ghost long: { length entries ≡ 4096 },
     ghost standing: { T (standFrom 0 entries) },
     ghost bounded: { sumOf size entries ≤ count * pieceLimit },
@@ -152,11 +152,11 @@ pub impl Condenser for PairingTable as PairingCondenser {
     }
 
     fn put_count(&self) -> u64 {
-        self.count
+        self.count as u64
     }
 
     fn put_limit(&self) -> u64 {
-        CAPACITY
+        CAPACITY as u64
     }
 
     fn summand_count(&self) -> u64 {
