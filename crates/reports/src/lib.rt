@@ -1,2 +1,4 @@
-//! The report of a whole sheet, line by line as its bytes come in.
+//! A whole sheet: its lines entered into a run as its bytes come in, and the lines that were refused.
 pub mod sheet;
+pub mod feeding;
+pub mod ending;

@@ -1,11 +1,11 @@
 //! `total`: the report of the sheet on standard input. It only moves bytes between the streams and the sheet.
 use condensers::pairing_table::PairingCondenser;
 use condensers::pairing_table::PairingTable;
-use readings::forms::Direction;
+use reports::ending::write_total;
+use reports::feeding::Finished;
+use reports::sheet::Fed;
 use reports::sheet::RefusedLine;
 use reports::sheet::Sheet;
-use sheets::reports::write_refused;
-use sheets::reports::write_sum;
 use std::error::AnyError;
 use std::io::BufWriter;
 use std::io::Read;
@@ -26,14 +26,10 @@ fn main(rt: LibcRuntime) -> Result<(), AnyError> {
         }
         feed(&mut sheet, &chunk[0..read], &mut out)?;
     }
-    report_line(sheet.finish(), &mut out)?;
-    let sealed = sheet.seal();
+    let Finished { run, refused } = sheet.finish();
+    report_line(refused, &mut out)?;
     let mut bytes = [0; ROOM];
-    let Ok(length) = write_sum(
-        sealed.read_long(Direction::Nearest),
-        sealed.products(),
-        &mut bytes,
-    ) else {
+    let Ok(length) = write_total(&run, &mut bytes) else {
         return Err("no room for the report".into());
     };
     out.write_all(&bytes[0..length])?;
@@ -41,25 +37,24 @@ fn main(rt: LibcRuntime) -> Result<(), AnyError> {
     Ok(())
 }
 
-/// The bytes of a part of the sheet.
-fn feed<W: Write>(
-    sheet: &mut Sheet<PairingTable>,
-    bytes: &[u8],
-    out: &mut W,
-) -> Result<(), AnyError> {
-    for byte in bytes {
-        report_line(sheet.push(*byte), out)?;
+/// The bytes of a part of the sheet, line by line.
+fn feed<W: Write>(sheet: &mut Sheet<PairingTable>, bytes: &[u8], out: &mut W) -> Result<(), AnyError> {
+    let mut at = 0;
+    while at < bytes.len() {
+        let Fed { taken, refused } = sheet.feed(&bytes[at..]);
+        report_line(refused, out)?;
+        at += taken;
     }
     Ok(())
 }
 
 /// The report of a line that was refused.
 fn report_line<W: Write>(refused: Option<RefusedLine>, out: &mut W) -> Result<(), AnyError> {
-    let Some(RefusedLine { line, refusal }) = refused else {
+    let Some(line) = refused else {
         return Ok(());
     };
     let mut bytes = [0; ROOM];
-    let Ok(length) = write_refused(line, refusal.reason.code(), refusal.place, &mut bytes) else {
+    let Ok(length) = line.write(&mut bytes) else {
         return Err("no room for the report".into());
     };
     out.write_all(&bytes[0..length])?;

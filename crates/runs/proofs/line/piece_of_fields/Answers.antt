@@ -1,8 +1,8 @@
 -- The text of a field is that of its element. Assumes nothing.
 use mathlib.Core.Path.{sym, subst}
 use lib.IntN.{ℤ}
-use mir.Syntax.{w32}
-use mir.Val.{SFits}
+use mir.Syntax.{w32, w64}
+use mir.Val.{Fits, SFits}
 use borrow.Author.Needs.{needs}
 use Rattle.std.proofs.shelf.Signed.{toZ-ofZ}
 use Rattle.std.specs.declared.option.Option.{Option}
@@ -16,13 +16,14 @@ use Rattle.runs.proofs.line.piece_of_fields.Needs as need
 pub returns-in-Pattern : need.returns-in-Pattern
 returns-in-Pattern c =
     let i = c .in-Pattern in
+    let fits : Fits w64 (i .element) = search needs in
     let y = fieldValue (fieldText (c .args .second)) in
     let q = placeOf (c .args .second) in
     record {
       answer = λ w v.
           subst (λ (f : Field). PieceOf (fieldValue (fieldText f)) (placeOf f) y q (c .piece-with .result)) (sym (i .is))
           (subst (λ (x : Option ℤ). PieceOf x (i .place) y q (c .piece-with .result))
-          (sym (pattern-field (i .element) (i .digits .now) (subst Writes (i .is) w .0) (subst Writes (i .is) w .1))) (c .piece-with .ensures .answer v));
+          (sym (pattern-field (i .element) (i .digits .now) (fits .fits) (subst Writes (i .is) w))) (c .piece-with .ensures .answer v));
     }
 
 pub returns-in-Count : need.returns-in-Count
@@ -35,5 +36,5 @@ returns-in-Count c =
       answer = λ w v.
           subst (λ (f : Field). PieceOf (fieldValue (fieldText f)) (placeOf f) y q (c .piece-with-in-Count .result)) (sym (i .is))
           (subst (λ (x : Option ℤ). PieceOf x (i .place) y q (c .piece-with-in-Count .result))
-          (sym (count-field (i .element) (i .digits .now) fits (subst Writes (i .is) w .1))) (simp toZ-ofZ at (c .piece-with-in-Count .ensures .answer v)));
+          (sym (count-field (i .element) (i .digits .now) fits (subst Writes (i .is) w))) (simp toZ-ofZ at (c .piece-with-in-Count .ensures .answer v)));
     }

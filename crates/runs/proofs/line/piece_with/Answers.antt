@@ -1,8 +1,8 @@
 -- The text of a field is that of its element. Assumes nothing.
 use mathlib.Core.Path.{sym, subst}
 use lib.IntN.{ℤ}
-use mir.Syntax.{w32}
-use mir.Val.{SFits}
+use mir.Syntax.{w32, w64}
+use mir.Val.{Fits, SFits}
 use borrow.Author.Needs.{needs}
 use Rattle.std.proofs.shelf.Signed.{toZ-ofZ}
 use Rattle.std.specs.declared.option.Option.{Option}
@@ -16,11 +16,12 @@ use Rattle.runs.proofs.line.piece_with.Needs as need
 pub returns-in-Pattern : need.returns-in-Pattern
 returns-in-Pattern g c =
     let i = c .in-Pattern in
+    let fits : Fits w64 (i .element) = search needs in
     record {
       answer = λ w.
           subst (λ (f : Field). PieceOf (g .K·Kind .value (c .args .first)) (c .args .p) (fieldValue (fieldText f)) (placeOf f) (c .piece-of .result)) (sym (i .is))
           (subst (λ (v : Option ℤ). PieceOf (g .K·Kind .value (c .args .first)) (c .args .p) v (i .place) (c .piece-of .result))
-          (sym (pattern-field (i .element) (i .digits .now) (subst Writes (i .is) w .0) (subst Writes (i .is) w .1))) (c .piece-of .ensures .answer));
+          (sym (pattern-field (i .element) (i .digits .now) (fits .fits) (subst Writes (i .is) w))) (c .piece-of .ensures .answer));
     }
 
 pub returns-in-Count : need.returns-in-Count
@@ -31,5 +32,5 @@ returns-in-Count g c =
       answer = λ w.
           subst (λ (f : Field). PieceOf (g .K·Kind .value (c .args .first)) (c .args .p) (fieldValue (fieldText f)) (placeOf f) (c .piece-of-in-Count .result)) (sym (i .is))
           (subst (λ (v : Option ℤ). PieceOf (g .K·Kind .value (c .args .first)) (c .args .p) v (i .place) (c .piece-of-in-Count .result))
-          (sym (count-field (i .element) (i .digits .now) fits (subst Writes (i .is) w .1))) (simp toZ-ofZ at (c .piece-of-in-Count .ensures .answer)));
+          (sym (count-field (i .element) (i .digits .now) fits (subst Writes (i .is) w))) (simp toZ-ofZ at (c .piece-of-in-Count .ensures .answer)));
     }

@@ -1,0 +1,2 @@
+-- The definitions that the contracts of `reports` cite.
+pub mod Sheets
