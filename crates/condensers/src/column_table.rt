@@ -110,6 +110,7 @@ impl ColumnTable {
         self.add(piece.negative, piece.significand, rank_of(piece));
     }
 
+    /// Two summands for each column.
     fn part_count(&self) -> u64
         ensures answer { λ r. ⌜ r ≡ length (summandsFrom 0 (now (self .entry) .columns)) ⌝ }
     {

@@ -98,6 +98,7 @@ impl PairingTable {
         self.enter(number_of(piece));
     }
 
+    /// One summand for each place.
     fn entry_count(&self) -> u64
         ensures answer { λ r. ⌜ r ≡ length (map summandOf (now (self .entry) .entries)) ⌝ }
     {
