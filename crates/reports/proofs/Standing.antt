@@ -1,12 +1,13 @@
 -- A sheet's run holds the bag of its lines, and each refused line is found under its number. Assumes nothing.
-use Prim.Native.Nat.{ℕ, zero, suc, _+_, _^_, _<_, _≤_}
+use Prim.Native.Nat.{ℕ, zero, suc, _+_, _-_, _^_, _<_, _≤_}
 use native.Mathlib.Nat.{add-assoc, add-comm}
 use native.Mathlib.Omega.{arith}
 use mathlib.Core.Path.{_≡_, refl, sym, ap, ap₂, subst, _∙_}
 use mathlib.Core.Bool.{Bool, true, false, cond}
 use mathlib.Core.List.{List, [], _∷_, _++_, map, append-assoc, append-nil, map-append}
 use lib.IntN.{ℤ}
-use lib.ListN.{length, take, length-append}
+use lib.ListN.{length, take, drop, length-append, length-drop}
+use lib.Seq.{take-add, take-all}
 use Rattle.std.specs.declared.option.Option.{Option}
 use Rattle.std.specs.declared.option.Option.the-variants.{Some, None}
 use Rattle.std.specs.declared.result.Result.{Result}
@@ -153,3 +154,11 @@ took-some s s′ chunk r t some = go r (s′ .complete) refl t
         let one : length (yielded s′) ≡ 1 = ap length (cond-true (s′ .complete) (held s′ ∷ []) [] e) in
         let none : length (yielded s′) ≡ 0 = ap length (sym (u .lines)) ∙ ap (λ (bs : List ℕ). length (ended (current s) bs)) (take-none chunk) in
         absurd (omega arith)
+
+-- what is left of some bytes behind the place i
+pub left-is : (l : List ℕ) (i : ℕ) → take (length l - i) (drop i l) ≡ drop i l
+left-is l i = take-all (length l - i) (drop i l) (omega (arith, length-drop i l))
+
+-- some of what is left joins what came before it
+pub next-part : (past l : List ℕ) (i n : ℕ) → (past ++ take i l) ++ take n (take (length l - i) (drop i l)) ≡ past ++ take (i + n) l
+next-part past l i n = append-assoc past (take i l) _ ∙ ap (λ (k : List ℕ). past ++ (take i l ++ take n k)) (left-is l i) ∙ ap (λ (k : List ℕ). past ++ k) (sym (take-add i n l))

@@ -2,3 +2,4 @@
 pub mod sheet;
 pub mod feeding;
 pub mod ending;
+pub mod stream;
