@@ -30,6 +30,16 @@ impl<C: Condenser + Drop> Sheet<C> {
         ensures law { λ r. ⌜ ((past : List ℕ) → Stands (C·Condenser .capacity) (C·Condenser .total) (C·Condenser .count) past (now (self .entry)) → Stands (C·Condenser .capacity) (C·Condenser .total) (C·Condenser .count) (past ++ take (r .taken) (now (chunk .entry))) (now (self .exit))) ⌝ }
         ensures answer { λ r. ⌜ ((past : List ℕ) → Stands (C·Condenser .capacity) (C·Condenser .total) (C·Condenser .count) past (now (self .entry)) → length (ended [] past) + 1 < 2 ^ 64 → refusals (C·Condenser .capacity) (ended [] (past ++ take (r .taken) (now (chunk .entry)))) ≡ refusals (C·Condenser .capacity) (ended [] past) ++ listed (r .refused)) ⌝ }
     {
+        self.feed_line(chunk)
+    }
+
+    /// One line at most, or the whole chunk.
+    fn feed_line(&mut self, chunk: &[u8]) -> Fed
+        ensures limits { λ r. ⌜ (r .taken ≤ length (now (chunk .entry))) × (0 < length (now (chunk .entry)) → 0 < r .taken) ⌝ }
+        ensures lines { λ r. ⌜ Took (now (self .entry) .lines) (now (chunk .entry)) (r .taken) (now (self .exit) .lines) ⌝ }
+        ensures law { λ r. ⌜ ((past : List ℕ) → Stands (C·Condenser .capacity) (C·Condenser .total) (C·Condenser .count) past (now (self .entry)) → Stands (C·Condenser .capacity) (C·Condenser .total) (C·Condenser .count) (past ++ take (r .taken) (now (chunk .entry))) (now (self .exit))) ⌝ }
+        ensures answer { λ r. ⌜ ((past : List ℕ) → Stands (C·Condenser .capacity) (C·Condenser .total) (C·Condenser .count) past (now (self .entry)) → length (ended [] past) + 1 < 2 ^ 64 → refusals (C·Condenser .capacity) (ended [] (past ++ take (r .taken) (now (chunk .entry)))) ≡ refusals (C·Condenser .capacity) (ended [] past) ++ listed (r .refused)) ⌝ }
+    {
         let taken = self.lines.take(chunk);
         if self.lines.is_complete() {
             let refused = enter_held(&mut self.run, &self.lines);
@@ -40,6 +50,14 @@ impl<C: Condenser + Drop> Sheet<C> {
 
     /// Ends the sheet: bytes behind the last line feed form a line.
     pub fn finish(self) -> Finished<C>
+        ensures answer { λ r. ⌜ ((past : List ℕ) → Stands (C·Condenser .capacity) (C·Condenser .total) (C·Condenser .count) past self → length (ended [] past) + 1 < 2 ^ 64 → refusals (C·Condenser .capacity) (sheetLines past) ≡ refusals (C·Condenser .capacity) (ended [] past) ++ listed (r .refused)) ⌝ }
+        ensures after { λ r. ⌜ ((past : List ℕ) → Stands (C·Condenser .capacity) (C·Condenser .total) (C·Condenser .count) past self → Holds (C·Condenser .total) (C·Condenser .count) (r .run .condenser) (linesBag (C·Condenser .capacity) (sheetLines past))) ⌝ }
+    {
+        self.finish_rest()
+    }
+
+    /// The last line, where there is one, and the run sealed.
+    fn finish_rest(self) -> Finished<C>
         ensures answer { λ r. ⌜ ((past : List ℕ) → Stands (C·Condenser .capacity) (C·Condenser .total) (C·Condenser .count) past self → length (ended [] past) + 1 < 2 ^ 64 → refusals (C·Condenser .capacity) (sheetLines past) ≡ refusals (C·Condenser .capacity) (ended [] past) ++ listed (r .refused)) ⌝ }
         ensures after { λ r. ⌜ ((past : List ℕ) → Stands (C·Condenser .capacity) (C·Condenser .total) (C·Condenser .count) past self → Holds (C·Condenser .total) (C·Condenser .count) (r .run .condenser) (linesBag (C·Condenser .capacity) (sheetLines past))) ⌝ }
     {

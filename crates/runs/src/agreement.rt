@@ -39,6 +39,23 @@ pub fn compare_queues<C: Condenser + Drop, D: Condenser + Drop>(
     ensures count { λ r. ⌜ r .first .products ≡ length (bagOf (C·Condenser .capacity) (callsOf (now («first_queue» .entry)))) ⌝ ∗ ⌜ r .second .products ≡ length (bagOf (D·Condenser .capacity) (callsOf (now («second_queue» .entry)))) ⌝ }
     ensures answer { λ _. ⌜ now («first_answers» .exit) ≡ written (now («first_answers» .entry)) 0 (answersOf (C·Condenser .capacity) (callsOf (now («first_queue» .entry)))) ⌝ ∗ ⌜ now («second_answers» .exit) ≡ written (now («second_answers» .entry)) 0 (answersOf (D·Condenser .capacity) (callsOf (now («second_queue» .entry)))) ⌝ }
 {
+    read_both(first, first_queue, first_answers, second, second_queue, second_answers, direction)
+}
+
+/// Both queues played, and both totals read.
+fn read_both<C: Condenser + Drop, D: Condenser + Drop>(
+    first: C,
+    first_queue: &[Leg],
+    first_answers: &mut [Answer],
+    second: D,
+    second_queue: &[Leg],
+    second_answers: &mut [Answer],
+    direction: Direction,
+) -> Reports
+    ensures law { λ r. ⌜ Agree direction (bagOf (C·Condenser .capacity) (callsOf (now («first_queue» .entry)))) (bagOf (D·Condenser .capacity) (callsOf (now («second_queue» .entry)))) (r .first .reading) (r .second .reading) ⌝ }
+    ensures count { λ r. ⌜ r .first .products ≡ length (bagOf (C·Condenser .capacity) (callsOf (now («first_queue» .entry)))) ⌝ ∗ ⌜ r .second .products ≡ length (bagOf (D·Condenser .capacity) (callsOf (now («second_queue» .entry)))) ⌝ }
+    ensures answer { λ _. ⌜ now («first_answers» .exit) ≡ written (now («first_answers» .entry)) 0 (answersOf (C·Condenser .capacity) (callsOf (now («first_queue» .entry)))) ⌝ ∗ ⌜ now («second_answers» .exit) ≡ written (now («second_answers» .entry)) 0 (answersOf (D·Condenser .capacity) (callsOf (now («second_queue» .entry)))) ⌝ }
+{
     let one = play(first, first_queue, first_answers);
     let other = play(second, second_queue, second_answers);
     let first = Report {

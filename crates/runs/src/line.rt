@@ -25,6 +25,13 @@ impl<C: Condenser + Drop> Open<C> {
     pub fn enter(&mut self, line: &[u8]) -> Result<(), Refusal>
         ensures call { λ r. ⌜ Made (C·Condenser .capacity) (C·Condenser .total) (C·Condenser .count) (now (self .entry) .condenser) (now (self .exit) .condenser) (sheetLine (lineReading (now (line .entry)))) r ⌝ }
     {
+        self.enter_text(line)
+    }
+
+    /// Reads the line, tests the room and the elements, and puts the product.
+    fn enter_text(&mut self, line: &[u8]) -> Result<(), Refusal>
+        ensures call { λ r. ⌜ Made (C·Condenser .capacity) (C·Condenser .total) (C·Condenser .count) (now (self .entry) .condenser) (now (self .exit) .condenser) (sheetLine (lineReading (now (line .entry)))) r ⌝ }
+    {
         let Line {
             word,
             first,

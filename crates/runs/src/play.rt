@@ -80,6 +80,15 @@ pub fn play<C: Condenser + Drop>(condenser: C, queue: &[Leg], answers: &mut [Ans
     ensures count { λ r. ⌜ C·Condenser .count (r .condenser) ≡ length (bagOf (C·Condenser .capacity) (callsOf (now (queue .entry)))) ⌝ }
     ensures answer { λ _. ⌜ now (answers .exit) ≡ written (now (answers .entry)) 0 (answersOf (C·Condenser .capacity) (callsOf (now (queue .entry)))) ⌝ }
 {
+    play_legs(condenser, queue, answers)
+}
+
+/// The legs one after the other.
+fn play_legs<C: Condenser + Drop>(condenser: C, queue: &[Leg], answers: &mut [Answer]) -> Sealed<C>
+    ensures total { λ r. ⌜ C·Condenser .total (r .condenser) ≡ exactSum (bagOf (C·Condenser .capacity) (callsOf (now (queue .entry)))) ⌝ }
+    ensures count { λ r. ⌜ C·Condenser .count (r .condenser) ≡ length (bagOf (C·Condenser .capacity) (callsOf (now (queue .entry)))) ⌝ }
+    ensures answer { λ _. ⌜ now (answers .exit) ≡ written (now (answers .entry)) 0 (answersOf (C·Condenser .capacity) (callsOf (now (queue .entry)))) ⌝ }
+{
     let mut run = Open::new(condenser);
     let mut next = 0;
     for leg in queue {

@@ -6,7 +6,7 @@ use Rattle.sheets.specs.Splitting.{ended}
 use Rattle.runs.specs.Queues.{Holds}
 use Rattle.reports.specs.Sheets.{refusals, linesBag}
 use Rattle.reports.proofs.Standing.{none-ended, one-ended, number-is, holds-more, refusals-more, took-some}
-use Rattle.reports.proofs.sheet.Sheet.feed.Needs as need
+use Rattle.reports.proofs.sheet.Sheet.feed_line.Needs as need
 
 pub returns-then-is-complete : need.returns-then-is-complete
 returns-then-is-complete g c =

@@ -4,7 +4,7 @@ use lib.Ieee.{binary64}
 use lib.IntN.{ℤ}
 use Rattle.readings.specs.Rounding.{Rounds}
 use Rattle.runs.proofs.Agreements.{agree}
-use Rattle.runs.proofs.agreement.compare_queues.Needs as need
+use Rattle.runs.proofs.agreement.read_both.Needs as need
 
 pub returns : need.returns
 returns g c =

@@ -6,7 +6,7 @@ use Rattle.sheets.specs.Splitting.{ended, sheetLines}
 use Rattle.runs.specs.Queues.{Holds}
 use Rattle.reports.specs.Sheets.{refusals, linesBag}
 use Rattle.reports.proofs.Standing.{no-rest, some-rest, rest-number, holds-more, refusals-more}
-use Rattle.reports.proofs.sheet.Sheet.finish.Needs as need
+use Rattle.reports.proofs.sheet.Sheet.finish_rest.Needs as need
 
 pub returns-then-has-rest : need.returns-then-has-rest
 returns-then-has-rest g c =

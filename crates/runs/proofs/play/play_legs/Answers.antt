@@ -8,7 +8,7 @@ use Rattle.runs.specs.declared.queue.Leg.{Leg}
 use Rattle.runs.specs.Calls.{ValueCall}
 use Rattle.runs.specs.Queues.{callsOf, Resumes}
 use Rattle.runs.proofs.Playing.{resumes-on, resumes-none, resumes-all, next-leg, no-leg}
-use Rattle.runs.proofs.play.play.Needs as need
+use Rattle.runs.proofs.play.play_legs.Needs as need
 
 -- what stands past the end of a queue
 abbrev nothing : Leg

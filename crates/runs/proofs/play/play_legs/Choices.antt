@@ -2,7 +2,7 @@
 use mathlib.Core.List.{[]}
 use lib.ListN.{drop}
 use Rattle.runs.specs.Queues.{callsOf, Resumes}
-use Rattle.runs.proofs.play.play.Given as given
+use Rattle.runs.proofs.play.play_legs.Given as given
 
 abbrev pub Inv-loop-leg : given.InvT-loop-leg
 Inv-loop-leg g l =

@@ -10,7 +10,7 @@ use Rattle.runs.specs.Lines.{lineReading}
 use Rattle.runs.proofs.Elements.{says-ok}
 use Rattle.runs.proofs.Entering.{made-misread, made-full, made-unfit, made-entered}
 use Rattle.runs.proofs.LineTexts.{line-refused, line-accepted}
-use Rattle.runs.proofs.run.Open.enter.Needs as need
+use Rattle.runs.proofs.run.Open.enter_text.Needs as need
 
 pub returns-in-Break-word : need.returns-in-Break-word
 returns-in-Break-word g c =
