@@ -1,5 +1,5 @@
 -- A whole line: how far it goes along with the shape, and what its parts are. Assumes nothing.
-use Prim.Native.Nat.{ℕ, zero, suc, max, _+_, _-_, _≤_, _<_}
+use Prim.Native.Nat.{ℕ, zero, suc, max, _+_, _-_, _^_, _≤_, _<_}
 use mathlib.Core.Path.{_≡_, refl, ap, sym, subst, _∙_}
 use mathlib.Core.Bool.{Bool, true, false, cond}
 use mathlib.Core.List.{List, [], _∷_, _++_, append-assoc}
@@ -26,7 +26,7 @@ use Rattle.sheets.specs.declared.reader.Found.{Found}
 use Rattle.sheets.specs.Digits.{isDigit}
 use Rattle.sheets.specs.Elements.{Closed}
 use Rattle.sheets.specs.Forms.{Form, end, one, either, Lang, reach, Astray}
-use Rattle.sheets.specs.Lines.{wordText, fieldText, placeOf, OutOfRange, IsField, FieldAt, Parts, IsLine, FirstOut, SecondOut, ReadsLine}
+use Rattle.sheets.specs.Lines.{wordText, fieldText, placeOf, OutOfRange, IsField, FieldAt, Parts, IsLine, FirstOut, SecondOut, HasParts}
 use Rattle.sheets.specs.Shapes.{byte, literal, fieldShape, pairShape, lineShape}
 use Rattle.sheets.proofs.Forms.{astray}
 
@@ -38,8 +38,8 @@ end-closed : Closed end
 end-closed b bs d = refl
 
 -- a refusal with 5, where the line reaches no further
-pub misshapen-at : (line : List ℕ) (e : Refusal) → Refused e 5 (e .place) 0 → e .place ≤ length line → reach lineShape line ≡ e .place → ReadsLine line (Err e)
-misshapen-at line e r h along = inl (astray lineShape line (e .place) along h, r)
+pub misshapen-at : (line : List ℕ) (e : Refusal) → Refused e 5 (e .place) 0 → e .place ≤ length line → reach lineShape line ≡ e .place → Astray lineShape line (e .place) × Refused e 5 (e .place) 0
+misshapen-at line e r h along = (astray lineShape line (e .place) along h, r)
 
 is-word : (w : Word) → (wordText w ≡ codes "add") ⊎ (wordText w ≡ codes "sub")
 is-word Add = inl refl
@@ -111,20 +111,20 @@ module _ (line : List ℕ) (w : Word) (front : line ≡ wordText w ++ (9 ∷ dro
             omega (arith, first .later)
 
         -- the fields, or the first of them that is out of range
-        pub first-out : length line ≤ other .end → found .field ≡ None → (e : Refusal) → Refused e 6 4 1 → ReadsLine line (Err e)
-        first-out h none e r = inr (inl (record {
+        pub first-out : length line ≤ other .end → found .field ≡ None → (e : Refusal) → Refused e 6 4 1 → FirstOut line e
+        first-out h none e r = record {
           word = wordText w;
           first = between 4 tab line;
           second = between (tab + 1) (other .end) line;
           parts = parts-are h;
           out = subst (λ o. BySome o (OutOfRange (between 4 tab line)) (λ f. IsField (between 4 tab line) 4 f)) none (first .field-is);
           refused = r;
-        }))
+        }
 
-        pub second-out : length line ≤ other .end → (f : Field) → found .field ≡ Some f → other .field ≡ None → (e : Refusal) → Refused e 6 (tab + 1) 2 → ReadsLine line (Err e)
+        pub second-out : length line ≤ other .end → (f : Field) → found .field ≡ Some f → other .field ≡ None → (e : Refusal) → Refused e 6 (tab + 1) 2 → SecondOut line e
         second-out h f some none e r =
             let is : IsField (between 4 tab line) 4 f = subst (λ o. BySome o (OutOfRange (between 4 tab line)) (λ f. IsField (between 4 tab line) 4 f)) some (first .field-is) in
-            inr (inr (record {
+            record {
               word = wordText w;
               first = between 4 tab line;
               second = between (tab + 1) (other .end) line;
@@ -132,7 +132,7 @@ module _ (line : List ℕ) (w : Word) (front : line ≡ wordText w ++ (9 ∷ dro
               inside = is .inside;
               out = subst (λ o. BySome o (OutOfRange (between (tab + 1) (other .end) line)) (λ f. IsField (between (tab + 1) (other .end) line) (tab + 1) f)) none (second .field-is);
               refused = subst (λ p. Refused e 6 p 2) (sym first-length) r;
-            }))
+            }
 
         pub line-read : length line ≤ other .end → (f g : Field) → found .field ≡ Some f → other .field ≡ Some g → IsLine line (record { word = w; first = f; second = g })
         line-read h f g some also =
@@ -143,4 +143,13 @@ module _ (line : List ℕ) (w : Word) (front : line ≡ wordText w ++ (9 ∷ dro
               parts = subst (λ t. Parts line (wordText w) t (fieldText g)) (sym (is .bytes-are)) (subst (λ t. Parts line (wordText w) (between 4 tab line) t) (sym (js .bytes-are)) (parts-are h));
               first-is = subst (λ t. IsField t 4 f) (sym (is .bytes-are)) is;
               second-is = subst (λ p. IsField (fieldText g) p g) place (subst (λ t. IsField t (tab + 1) g) (sym (js .bytes-are)) js);
+            }
+
+        pub has-parts : length line ≤ other .end → tab + 1 < 2 ^ 64 → HasParts line (record { word = w; tab = tab; first = found .field; second = other .field })
+        has-parts h room =
+            record {
+              room = room;
+              both = line-read h;
+              first-out = first-out h;
+              second-out = second-out h;
             }

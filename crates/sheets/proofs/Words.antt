@@ -16,7 +16,7 @@ use Rattle.sheets.specs.Lines.{IsLine, wordText}
 use Rattle.sheets.specs.Outputs.{put, Fits, handed}
 use Rattle.sheets.proofs.Outputs.{put-on, handed-short}
 
-word-length : (w : Word) → length (wordText w) ≡ 3
+pub word-length : (w : Word) → length (wordText w) ≡ 3
 word-length Add = refl
 word-length Sub = refl
 

@@ -9,6 +9,7 @@ use lib.ListN.{length, drop}
 use denote.Ref.{now}
 use Rattle.std.specs.Options.{Cases as BySome}
 use Rattle.std.specs.shelf.Lists.{between}
+use Rattle.std.specs.declared.option.Option.the-variants.{Some, None}
 use Rattle.std.specs.declared.result.Result.{Result}
 use Rattle.std.specs.declared.result.Result.the-variants.{Ok, Err}
 use Rattle.numbers.specs.declared.refusal.Refusal.{Refusal}
@@ -19,6 +20,7 @@ use Rattle.sheets.specs.declared.line.Line.{Line}
 use Rattle.sheets.specs.declared.line.Word.{Word}
 use Rattle.sheets.specs.declared.line.Word.the-variants.{Add, Sub}
 use Rattle.sheets.specs.declared.reader.Found.{Found}
+use Rattle.sheets.specs.declared.reader.Scanned.{Scanned}
 use Rattle.sheets.specs.Elements.{Closed, Outside, patternText, countText, NoPattern, NoCount}
 use Rattle.sheets.specs.Forms.{Form, end, Lang, Astray, reach}
 use Rattle.sheets.specs.Shapes.{fieldShape, pairShape, lineShape}
@@ -135,6 +137,17 @@ pub record SecondOut (line : List ℕ) (e : Refusal) : Type 0 where
   pub inside : OutOfRange first → ⊥
   pub out : OutOfRange second
   pub refused : Refused e 6 (5 + length first) 2
+
+-- the parts of a line of the right shape: it is read with both its fields, and refused where one of them is out of range
+pub record HasParts (line : List ℕ) (s : Scanned) : Type 0 where
+  pub room : s .tab + 1 < 2 ^ 64
+  pub both : (f g : Field) → s .first ≡ Some f → s .second ≡ Some g → IsLine line (record { word = s .word; first = f; second = g })
+  pub first-out : s .first ≡ None → (e : Refusal) → Refused e 6 4 1 → FirstOut line e
+  pub second-out : (f : Field) → s .first ≡ Some f → s .second ≡ None → (e : Refusal) → Refused e 6 (s .tab + 1) 2 → SecondOut line e
+
+abbrev pub Scans : List ℕ → Result Scanned Refusal → Type 0
+Scans line (Ok s) = HasParts line s
+Scans line (Err e) = Astray lineShape line (e .place) × Refused e 5 (e .place) 0
 
 -- the answer to a line: read; refused with 5 where it leaves the shape of a line; or refused with 6
 abbrev pub ReadsLine : List ℕ → Result Line Refusal → Type 0

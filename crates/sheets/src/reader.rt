@@ -1,10 +1,11 @@
 //! The line reader: one pass over the caller's line, which finds its shape and its fields.
 ghost use mathlib.Core.Path.{_≡_};
-ghost use Prim.Native.Nat.{_<_, _≤_};
+ghost use mathlib.Core.List.{List};
+ghost use Prim.Native.Nat.{ℕ, _+_, _^_, _<_, _≤_};
 ghost use lib.ListN.{length, getD};
 ghost use Rattle.numbers.specs.Refusals.{Refused, sideOf};
 ghost use Rattle.sheets.specs.Forms.{shared};
-ghost use Rattle.sheets.specs.Lines.{ReadsWord, ReadsField, ReadsLine};
+ghost use Rattle.sheets.specs.Lines.{ReadsWord, ReadsField, HasParts, Scans, ReadsLine};
 use crate::line::Field;
 use crate::line::Line;
 use crate::line::Word;
@@ -32,9 +33,57 @@ struct Found<'a> {
     field: Option<Field<'a>>,
 }
 
+/// A line of the right shape: its word, the tab between its fields, and each field, none where its number lies outside the range of its kind.
+#[derive(Drop)]
+struct Scanned<'a> {
+    word: Word,
+    tab: usize,
+    first: Option<Field<'a>>,
+    second: Option<Field<'a>>,
+}
+
 /// Reads a line: its word and its fields, or where it departs from the shape of a line, or which count is out of range.
 pub fn read_line<'a>(line: &'a [u8]) -> Result<Line<'a>, Refusal>
     ensures answer { λ r. ⌜ ReadsLine (now (line .entry)) r ⌝ }
+{
+    parse_line(line)
+}
+
+/// The shape of the line is found first, and then its fields are held to their ranges.
+fn parse_line<'a>(line: &'a [u8]) -> Result<Line<'a>, Refusal>
+    ensures answer { λ r. ⌜ ReadsLine (now (line .entry)) r ⌝ }
+{
+    let scanned = scan_line(line)?;
+    in_range(scanned)
+}
+
+/// The line, unless one of its fields is out of range.
+fn in_range<'a>(scanned: Scanned<'a>) -> Result<Line<'a>, Refusal>
+    requires { ⌜ scanned .tab + 1 < 2 ^ 64 ⌝ }
+    ensures answer { λ r. ⌜ ((line : List ℕ) → HasParts line (scanned .entry) → ReadsLine line r) ⌝ }
+{
+    let Scanned {
+        word,
+        tab,
+        first,
+        second,
+    } = scanned;
+    let Some(first) = first else {
+        return Err(out_of_range(FIRST, Side::First));
+    };
+    let Some(second) = second else {
+        return Err(out_of_range(tab + 1, Side::Second));
+    };
+    Ok(Line {
+        word,
+        first,
+        second,
+    })
+}
+
+/// The parts of a line of the right shape, or where it departs from that shape.
+fn scan_line<'a>(line: &'a [u8]) -> Result<Scanned<'a>, Refusal>
+    ensures answer { λ r. ⌜ Scans (now (line .entry)) r ⌝ }
 {
     let word = read_word(line)?;
     let Found {
@@ -51,14 +100,9 @@ pub fn read_line<'a>(line: &'a [u8]) -> Result<Line<'a>, Refusal>
     if end < line.len() {
         return Err(misshapen(end));
     }
-    let Some(first) = first else {
-        return Err(out_of_range(FIRST, Side::First));
-    };
-    let Some(second) = second else {
-        return Err(out_of_range(tab + 1, Side::Second));
-    };
-    Ok(Line {
+    Ok(Scanned {
         word,
+        tab,
         first,
         second,
     })
@@ -74,12 +118,12 @@ fn misshapen(place: usize) -> Refusal
     }
 }
 
-fn out_of_range(place: usize, side: Side) -> Refusal
-    ensures answer { λ r. ⌜ Refused r 6 place (sideOf side) ⌝ }
+fn out_of_range(field: usize, side: Side) -> Refusal
+    ensures answer { λ r. ⌜ Refused r 6 field (sideOf side) ⌝ }
 {
     Refusal {
         reason: Reason::CountRange,
-        place: place as u64,
+        place: field as u64,
         side,
     }
 }

@@ -70,16 +70,7 @@ pub impl Written for Patterns as PatternsWritten {
     ghost holds = { HoldsPattern };
 
     fn read(bytes: &[u8]) -> Result<Read<u64>, usize> {
-        let digits = pattern_digits();
-        let numeral = read_digits(bytes, 16, digits);
-        if numeral.count == digits {
-            Ok(Read {
-                len: digits,
-                element: Some(numeral.number),
-            })
-        } else {
-            Err(numeral.count)
-        }
+        read_pattern(bytes, pattern_digits())
     }
 
     fn field<'a>(digits: &'a [u8], place: u64, element: u64) -> Field<'a> {
@@ -91,9 +82,7 @@ pub impl Written for Patterns as PatternsWritten {
     }
 
     fn write(element: u64) -> Text {
-        let mut text = Text::new();
-        text.put_digits(element, 16, pattern_digits());
-        text
+        text_of_pattern(element, pattern_digits())
     }
 }
 
@@ -102,6 +91,35 @@ fn pattern_digits() -> usize
     ensures answer { λ r. ⌜ r ≡ 16 ⌝ }
 {
     Patterns::WIDTH as usize / 4
+}
+
+/// A pattern of so many digits at the front.
+fn read_pattern(bytes: &[u8], digits: usize) -> Result<Read<u64>, usize>
+    requires { ⌜ digits ≡ 16 ⌝ }
+    ensures answer { λ r. ⌜ ReadsText patternShape patternText NoPattern (now (bytes .entry)) r ⌝ }
+    ensures law { λ _. ⌜ Leads 112 patternShape NoPattern ⌝ }
+{
+    let numeral = read_digits(bytes, 16, digits);
+    if numeral.count == digits {
+        Ok(Read {
+            len: digits,
+            element: Some(numeral.number),
+        })
+    } else {
+        Err(numeral.count)
+    }
+}
+
+/// The pattern in so many digits.
+fn text_of_pattern(element: u64, digits: usize) -> Text
+    requires { ⌜ digits ≡ 16 ⌝ }
+    ensures bytes { λ r. ⌜ textOf r ≡ patternText element ⌝ }
+    ensures limits { λ _. ⌜ length (patternText element) ≤ 16 ⌝ }
+    ensures law { λ _. ⌜ Stands 112 patternShape NoPattern (patternText element) (λ f. HoldsPattern f element) ⌝ }
+{
+    let mut text = Text::new();
+    text.put_digits(element, 16, digits);
+    text
 }
 
 const COUNT_DIGITS: usize = 10;
@@ -116,22 +134,7 @@ pub impl Written for Counts as CountsWritten {
     ghost holds = { HoldsCount };
 
     fn read(bytes: &[u8]) -> Result<Read<i32>, usize> {
-        if begins_with(bytes, b'0') {
-            return Ok(Read {
-                len: 1,
-                element: Some(0),
-            });
-        }
-        let negative = begins_with(bytes, b'-');
-        let sign = if negative { 1 } else { 0 };
-        let size = read_size(&bytes[sign..]);
-        if size.count == 0 {
-            return Err(sign);
-        }
-        Ok(Read {
-            len: sign + size.count,
-            element: count_of(negative, size.number),
-        })
+        read_count(bytes)
     }
 
     fn field<'a>(digits: &'a [u8], place: u64, element: i32) -> Field<'a> {
@@ -143,13 +146,45 @@ pub impl Written for Counts as CountsWritten {
     }
 
     fn write(element: i32) -> Text {
-        let mut text = Text::new();
-        if element < 0 {
-            text.put_bytes(b"-");
-        }
-        text.put_decimal(u64::from(element.unsigned_abs()));
-        text
+        text_of_count(element)
     }
+}
+
+/// A count at the front.
+fn read_count(bytes: &[u8]) -> Result<Read<i32>, usize>
+    ensures answer { λ r. ⌜ ReadsText countShape countText NoCount (now (bytes .entry)) r ⌝ }
+    ensures law { λ _. ⌜ Leads 99 countShape NoCount ⌝ }
+{
+    if begins_with(bytes, b'0') {
+        return Ok(Read {
+            len: 1,
+            element: Some(0),
+        });
+    }
+    let negative = begins_with(bytes, b'-');
+    let sign = if negative { 1 } else { 0 };
+    let size = read_size(&bytes[sign..]);
+    if size.count == 0 {
+        return Err(sign);
+    }
+    Ok(Read {
+        len: sign + size.count,
+        element: count_of(negative, size.number),
+    })
+}
+
+/// The count in decimal.
+fn text_of_count(element: i32) -> Text
+    ensures bytes { λ r. ⌜ textOf r ≡ countText element ⌝ }
+    ensures limits { λ _. ⌜ length (countText element) ≤ 16 ⌝ }
+    ensures law { λ _. ⌜ Stands 99 countShape NoCount (countText element) (λ f. HoldsCount f element) ⌝ }
+{
+    let mut text = Text::new();
+    if element < 0 {
+        text.put_bytes(b"-");
+    }
+    text.put_decimal(u64::from(element.unsigned_abs()));
+    text
 }
 
 /// Whether the bytes begin with that byte.

@@ -16,7 +16,6 @@ impl Splitter {
     /// Before the first line.
     pub fn new() -> Self
         ensures after { λ r. ⌜ After [] r ⌝ }
-        ensures law { λ _. ⌜ Parting ⌝ }
     {
         Splitter {
             bytes: [0; 40],
@@ -31,15 +30,9 @@ impl Splitter {
     pub fn take(&mut self, chunk: &[u8]) -> usize
         ensures answer { λ r. ⌜ Took (now (self .entry)) (now (chunk .entry)) r (now (self .exit)) ⌝ }
         ensures after { λ r. ⌜ ((past : List ℕ) → After past (now (self .entry)) → After (past ++ take r (now (chunk .entry))) (now (self .exit))) ⌝ }
+        ensures law { λ _. ⌜ Parting ⌝ }
     {
-        self.begin();
-        let at = line_feed_at(chunk);
-        self.keep(&chunk[0..at]);
-        if at < chunk.len() {
-            self.complete = true;
-            return at + 1;
-        }
-        at
+        self.advance(chunk)
     }
 
     /// Whether the line that it holds is at its end.
@@ -54,7 +47,7 @@ impl Splitter {
     pub fn has_rest(&self) -> bool
         ensures answer { λ r. ⌜ When r (last (current (now (self .entry))) ≡ held (now (self .entry)) ∷ []) (last (current (now (self .entry))) ≡ []) ⌝ }
     {
-        !self.complete && self.len > 0
+        !self.complete && self.has_bytes()
     }
 
     /// The number of the line that it holds, from 1.
@@ -70,6 +63,29 @@ impl Splitter {
         ensures bytes { λ r. ⌜ now r ≡ held (now (self .entry)) ⌝ }
     {
         &self.bytes[0..self.len]
+    }
+
+    /// Whether the line that it holds has bytes.
+    fn has_bytes(&self) -> bool
+        ensures answer { λ r. ⌜ When r (last (held (now (self .entry))) ≡ held (now (self .entry)) ∷ []) (last (held (now (self .entry))) ≡ []) ⌝ }
+    {
+        self.len > 0
+    }
+
+    /// Begins the next line after a complete one, and goes on to the next line feed.
+    fn advance(&mut self, chunk: &[u8]) -> usize
+        ensures answer { λ r. ⌜ Took (now (self .entry)) (now (chunk .entry)) r (now (self .exit)) ⌝ }
+        ensures after { λ r. ⌜ ((past : List ℕ) → After past (now (self .entry)) → After (past ++ take r (now (chunk .entry))) (now (self .exit))) ⌝ }
+        ensures law { λ _. ⌜ Parting ⌝ }
+    {
+        self.begin();
+        let at = line_feed_at(chunk);
+        self.keep(&chunk[0..at]);
+        if at < chunk.len() {
+            self.complete = true;
+            return at + 1;
+        }
+        at
     }
 
     /// Leaves a complete line for the next one.

@@ -19,4 +19,5 @@ returns g c =
     let letter-is : c .field-letter .result ≡ letter = c .field-letter .ensures .answer in
     let t2 : textOf (c .put-byte .last .self) ≡ (before ++ (9 ∷ [])) ++ (letter ∷ []) = put-on (textOf (c .put-bytes .last .self)) (textOf (c .put-byte .last .self)) (before ++ (9 ∷ [])) (letter ∷ []) (c .put-byte .ensures .bytes ∙ ap (λ b. put (textOf (c .put-bytes .last .self)) (b ∷ [])) letter-is) t1 (simp length-append (omega arith)) in
     let t3 : textOf (c .put-text .last .self) ≡ ((before ++ (9 ∷ [])) ++ (letter ∷ [])) ++ text = put-on (textOf (c .put-byte .last .self)) (textOf (c .put-text .last .self)) ((before ++ (9 ∷ [])) ++ (letter ∷ [])) text (c .put-text .ensures .bytes ∙ ap (put (textOf (c .put-byte .last .self))) (c .write .ensures .bytes)) t2 (simp length-append (omega arith)) in
-    record { bytes = t3 ∙ simp append-assoc; limits = short; law = c .write .ensures .law }
+    let whole : textOf (c .put-text .last .self) ≡ before ++ (9 ∷ (letter ∷ text)) = t3 ∙ simp append-assoc in
+    record { bytes = whole; limits = short; count = omega (arith, ap length whole, length-append before (9 ∷ (letter ∷ text))); law = c .write .ensures .law }
