@@ -59,7 +59,7 @@ module _ {C : Type 0} (capacity : ℕ) (total : C → ℤ) (count : C → ℕ) (
   enters-ok m =
       record {
         holds = made-holds capacity total count before after (lineCall line) (Ok tt) bag m h;
-        refused-is = subst (λ (k : ℕ). [] ≡ refusedAs n (callOutcome capacity k (lineCall line))) (h .count-is) (go (callOutcome capacity (count before) (lineCall line)) (m .answer))
+        refused-is = subst (λ (k : ℕ). [] ≡ refusedAs n (callOutcome capacity k (lineCall line))) (h .count-is) (go (callOutcome capacity (count before) (lineCall line)) (m .answer));
       }
     where
       go : (o : Outcome) → Says o (Ok tt) → [] ≡ refusedAs n o
@@ -70,7 +70,7 @@ module _ {C : Type 0} (capacity : ℕ) (total : C → ℤ) (count : C → ℕ) (
   enters-err e m r is =
       record {
         holds = made-holds capacity total count before after (lineCall line) (Err e) bag m h;
-        refused-is = ap (λ (x : RefusedLine). x ∷ []) is ∙ subst (λ (k : ℕ). (record { line = n; code = codeOf (e .reason); place = e .place } ∷ []) ≡ refusedAs n (callOutcome capacity k (lineCall line))) (h .count-is) (go (callOutcome capacity (count before) (lineCall line)) (m .answer))
+        refused-is = ap (λ (x : RefusedLine). x ∷ []) is ∙ subst (λ (k : ℕ). (record { line = n; code = codeOf (e .reason); place = e .place } ∷ []) ≡ refusedAs n (callOutcome capacity k (lineCall line))) (h .count-is) (go (callOutcome capacity (count before) (lineCall line)) (m .answer));
       }
     where
       go : (o : Outcome) → Says o (Err e) → (record { line = n; code = codeOf (e .reason); place = e .place } ∷ []) ≡ refusedAs n o

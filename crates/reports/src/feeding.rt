@@ -20,7 +20,10 @@ impl<C: Condenser + Drop> Sheet<C> {
     pub fn new(condenser: C) -> Sheet<C>
         ensures law { λ r. ⌜ Stands (C·Condenser .capacity) (C·Condenser .total) (C·Condenser .count) [] r ⌝ }
     {
-        Sheet { run: Open::new(condenser), lines: Splitter::new() }
+        Sheet {
+            run: Open::new(condenser),
+            lines: Splitter::new(),
+        }
     }
 
     /// Takes the bytes of the chunk up to the next line feed, that one too, and enters the line that it ends.
@@ -45,7 +48,10 @@ impl<C: Condenser + Drop> Sheet<C> {
             let refused = enter_held(&mut self.run, &self.lines);
             return Fed { taken, refused };
         }
-        Fed { taken, refused: None }
+        Fed {
+            taken,
+            refused: None,
+        }
     }
 
     /// Ends the sheet: bytes behind the last line feed form a line.
@@ -65,9 +71,15 @@ impl<C: Condenser + Drop> Sheet<C> {
         let mut run = run;
         if lines.has_rest() {
             let refused = enter_held(&mut run, &lines);
-            return Finished { run: run.seal(), refused };
+            return Finished {
+                run: run.seal(),
+                refused,
+            };
         }
-        Finished { run: run.seal(), refused: None }
+        Finished {
+            run: run.seal(),
+            refused: None,
+        }
     }
 }
 
@@ -84,6 +96,10 @@ fn enter_held<C: Condenser + Drop>(run: &mut Open<C>, lines: &Splitter) -> Optio
 {
     match run.enter(lines.line()) {
         Ok(()) => None,
-        Err(refusal) => Some(RefusedLine { line: lines.number(), code: refusal.reason.code(), place: refusal.place }),
+        Err(refusal) => Some(RefusedLine {
+            line: lines.number(),
+            code: refusal.reason.code(),
+            place: refusal.place,
+        }),
     }
 }

@@ -39,7 +39,15 @@ pub fn compare_queues<C: Condenser + Drop, D: Condenser + Drop>(
     ensures count { λ r. ⌜ r .first .products ≡ length (bagOf (C·Condenser .capacity) (callsOf (now («first_queue» .entry)))) ⌝ ∗ ⌜ r .second .products ≡ length (bagOf (D·Condenser .capacity) (callsOf (now («second_queue» .entry)))) ⌝ }
     ensures answer { λ _. ⌜ now («first_answers» .exit) ≡ written (now («first_answers» .entry)) 0 (answersOf (C·Condenser .capacity) (callsOf (now («first_queue» .entry)))) ⌝ ∗ ⌜ now («second_answers» .exit) ≡ written (now («second_answers» .entry)) 0 (answersOf (D·Condenser .capacity) (callsOf (now («second_queue» .entry)))) ⌝ }
 {
-    read_both(first, first_queue, first_answers, second, second_queue, second_answers, direction)
+    read_both(
+        first,
+        first_queue,
+        first_answers,
+        second,
+        second_queue,
+        second_answers,
+        direction,
+    )
 }
 
 /// Both queues played, and both totals read.

@@ -14,6 +14,6 @@ returns g c =
         pattern = c .read-long .result;
         rounds = c .read-long .ensures .answer;
         answer = subst (λ (n : ℕ). Fits (sumReport (c .read-long .result) n) (length (c .args .out .now)) (c .write-sum .result)) count (c .write-sum .ensures .answer);
-        bytes = subst (λ (n : ℕ). c .write-sum .last .out ≡ handed (sumReport (c .read-long .result) n) (c .args .out .now)) count (c .write-sum .ensures .bytes)
-      }
+        bytes = subst (λ (n : ℕ). c .write-sum .last .out ≡ handed (sumReport (c .read-long .result) n) (c .args .out .now)) count (c .write-sum .ensures .bytes);
+      };
     }

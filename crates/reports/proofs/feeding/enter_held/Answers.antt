@@ -13,7 +13,7 @@ returns-in-Ok g c =
     let m = subst (λ (l : List ℕ). Made (g .C·Condenser .capacity) (g .C·Condenser .total) (g .C·Condenser .count) (c .args .run .now .condenser) (c .enter .last .self .condenser) (lineCall l) (Ok tt)) (c .line .ensures .bytes) (c .in-Ok .ensures tt .call) in
     record {
       after = λ bag h.
-          enters-ok (g .C·Condenser .capacity) (g .C·Condenser .total) (g .C·Condenser .count) (c .args .run .now .condenser) (c .enter .last .self .condenser) _ (c .args .lines .now .number) bag h m
+          enters-ok (g .C·Condenser .capacity) (g .C·Condenser .total) (g .C·Condenser .count) (c .args .run .now .condenser) (c .enter .last .self .condenser) _ (c .args .lines .now .number) bag h m;
     }
 
 pub returns-in-Err : need.returns-in-Err
@@ -23,5 +23,5 @@ returns-in-Err g c =
     record {
       after = λ bag h.
           enters-err (g .C·Condenser .capacity) (g .C·Condenser .total) (g .C·Condenser .count) (c .args .run .now .condenser) (c .enter .last .self .condenser) _ (c .args .lines .now .number) bag h e m _
-          (λ i. record { line = c .number .ensures .answer i; code = c .code .ensures .answer i; place = e .place })
+          (λ i. record { line = c .number .ensures .answer i; code = c .code .ensures .answer i; place = e .place });
     }

@@ -26,12 +26,12 @@ returns-then-is-complete g c =
           record {
             lines-are = c .take-taken .ensures .after past (st .lines-are);
             holds = subst (λ (ls : List (List ℕ)). Holds total count (c .enter-held-refused .last .run .condenser) (linesBag cap ls)) (sym (one-ended past chunk r s s2 (st .lines-are) took full))
-                (holds-more cap total count (ended [] past) _ _ (c .enter-held-refused .last .run .condenser) (c .enter-held-refused .result) (c .enter-held-refused .ensures .after _ (st .holds)))
+                (holds-more cap total count (ended [] past) _ _ (c .enter-held-refused .last .run .condenser) (c .enter-held-refused .result) (c .enter-held-refused .ensures .after _ (st .holds)));
           };
       answer = λ past st few.
           ap (refusals cap) (one-ended past chunk r s s2 (st .lines-are) took full)
           ∙ refusals-more cap total count (ended [] past) _ _ (c .enter-held-refused .last .run .condenser) (c .enter-held-refused .result) (c .enter-held-refused .ensures .after _ (st .holds))
-              (number-is past chunk r s s2 (st .lines-are) took full (c .take-taken .ensures .after past (st .lines-are)) few)
+          (number-is past chunk r s s2 (st .lines-are) took full (c .take-taken .ensures .after past (st .lines-are)) few);
     }
 
 pub returns : need.returns
@@ -51,7 +51,7 @@ returns g c =
       law = λ past st.
           record {
             lines-are = c .take-taken .ensures .after past (st .lines-are);
-            holds = subst (λ (ls : List (List ℕ)). Holds total count (c .args .self .now .run .condenser) (linesBag cap ls)) (sym (none-ended past chunk r s s2 (st .lines-are) took part)) (st .holds)
+            holds = subst (λ (ls : List (List ℕ)). Holds total count (c .args .self .now .run .condenser) (linesBag cap ls)) (sym (none-ended past chunk r s s2 (st .lines-are) took part)) (st .holds);
           };
-      answer = λ past st few. ap (refusals cap) (none-ended past chunk r s s2 (st .lines-are) took part) ∙ sym (append-nil (refusals cap (ended [] past)))
+      answer = λ past st few. ap (refusals cap) (none-ended past chunk r s s2 (st .lines-are) took part) ∙ sym (append-nil (refusals cap (ended [] past)));
     }

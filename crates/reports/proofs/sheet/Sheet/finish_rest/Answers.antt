@@ -22,7 +22,7 @@ returns-then-has-rest g c =
       after = λ past st.
           subst (λ x. Holds total count x (linesBag cap (sheetLines past))) (sym (c .seal .ensures .unchanged))
           (subst (λ (ls : List (List ℕ)). Holds total count (c .enter-held-refused .last .run .condenser) (linesBag cap ls)) (sym (some-rest past s (st .lines-are) rest))
-          (holds-more cap total count (ended [] past) _ _ (c .enter-held-refused .last .run .condenser) (c .enter-held-refused .result) (c .enter-held-refused .ensures .after _ (st .holds))))
+          (holds-more cap total count (ended [] past) _ _ (c .enter-held-refused .last .run .condenser) (c .enter-held-refused .result) (c .enter-held-refused .ensures .after _ (st .holds))));
     }
 
 pub returns : need.returns
@@ -36,5 +36,5 @@ returns g c =
       answer = λ past st few. ap (refusals cap) (no-rest past s (st .lines-are) none) ∙ sym (append-nil (refusals cap (ended [] past)));
       after = λ past st.
           subst (λ x. Holds total count x (linesBag cap (sheetLines past))) (sym (c .seal-2 .ensures .unchanged))
-          (subst (λ (ls : List (List ℕ)). Holds total count (c .args .self .run .condenser) (linesBag cap ls)) (sym (no-rest past s (st .lines-are) none)) (st .holds))
+          (subst (λ (ls : List (List ℕ)). Holds total count (c .args .self .run .condenser) (linesBag cap ls)) (sym (no-rest past s (st .lines-are) none)) (st .holds));
     }

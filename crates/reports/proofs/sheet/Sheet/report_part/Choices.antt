@@ -9,7 +9,7 @@ abbrev pub Inv-loop-at : given.InvT-loop-at
 Inv-loop-at g l =
     (l .at ≤ length (l .bytes))
     × ((past : List ℕ) → Stands (g .C·Condenser .capacity) (g .C·Condenser .total) (g .C·Condenser .count) past (l .entry .self)
-      → Stands (g .C·Condenser .capacity) (g .C·Condenser .total) (g .C·Condenser .count) (past ++ take (l .at) (l .bytes)) (l .self))
+    → Stands (g .C·Condenser .capacity) (g .C·Condenser .total) (g .C·Condenser .count) (past ++ take (l .at) (l .bytes)) (l .self))
 
 abbrev pub μ-loop-at : given.MeasureT-loop-at
 μ-loop-at g l = length (l .bytes) - l .at
