@@ -12,3 +12,4 @@ pub mod refusal;
 pub mod rounding;
 pub mod run;
 pub mod sheet;
+pub mod vector;

@@ -1,4 +1,4 @@
-//! The command `reference`: reports of sheets, roundings of values, and generated sheets.
+//! The command `reference`: reports of sheets, roundings of values, readings of vectors, and generated sheets.
 
 use std::fs;
 use std::io::{self, BufRead, Read, Write};
@@ -11,6 +11,7 @@ use reference::kinds::UNIT_POWER;
 use reference::rounding::{long_reading, short_reading, Direction, Exact, BINARY32, BINARY64};
 use reference::run::CAPACITY;
 use reference::sheet;
+use reference::vector::{self, Vector};
 
 const USAGE: &str = "usage:
   reference sheet < FILE     the report of a sheet
@@ -22,7 +23,12 @@ const USAGE: &str = "usage:
                              reads lines 'HEX POWER', an integer times 2^POWER, and prints
                              the pattern of each. DIRECTION: nearest, zero, up, down.
                              WIDTH: long, short (readings of totals in whole units of
-                             2^-1074), binary64, binary32 (one rounding of any value)";
+                             2^-1074), binary64, binary32 (one rounding of any value)
+  reference readings < FILE  reads vectors 'DIRECTION WIDTH' and pairs of patterns, and prints
+                             the reading of the sum of their products, twice
+  reference published PATTERNS < FILE
+                             holds the readings of these vectors to the published patterns,
+                             and lists those that differ with the reason";
 
 type Answer = Result<Vec<u8>, String>;
 
@@ -35,6 +41,8 @@ fn main() -> ExitCode {
         ["names", folder] => names(Path::new(folder)).map(|names| lines(&names)),
         ["generate", name] => generate::sheet(name).ok_or(format!("no sheet is called {name}")),
         ["round", direction, width] => rounded_input(direction, width),
+        ["readings"] => readings_of_input(),
+        ["published", file] => published_of_input(Path::new(file)),
         _ => Err(USAGE.to_string()),
     };
     let written =
@@ -89,19 +97,36 @@ fn reports_of_folder(folder: &Path) -> Answer {
 }
 
 fn rounded_input(direction: &str, width: &str) -> Answer {
-    let direction = match direction {
-        "nearest" => Direction::Nearest,
-        "zero" => Direction::TowardZero,
-        "up" => Direction::Up,
-        "down" => Direction::Down,
-        _ => return Err(format!("{direction} is no direction")),
-    };
+    let direction = Direction::named(direction)?;
     let mut patterns = Vec::new();
-    for line in io::stdin().lock().lines() {
-        let line = line.map_err(|e| e.to_string())?;
+    for line in input_lines()? {
         patterns.push(rounded_line(&line, direction, width)?);
     }
     Ok(lines(&patterns))
+}
+
+fn input_lines() -> Result<Vec<String>, String> {
+    let read: io::Result<Vec<String>> = io::stdin().lock().lines().collect();
+    read.map_err(|e| e.to_string())
+}
+
+fn vectors_of_input() -> Result<Vec<Vector>, String> {
+    input_lines()?
+        .iter()
+        .map(|line| Vector::read(line))
+        .collect()
+}
+
+fn readings_of_input() -> Answer {
+    let printed: Vec<String> = vectors_of_input()?.iter().map(Vector::readings).collect();
+    Ok(lines(&printed))
+}
+
+fn published_of_input(file: &Path) -> Answer {
+    let text = fs::read_to_string(file).map_err(|e| format!("{}: {e}", file.display()))?;
+    let published: Result<Vec<u64>, String> = text.lines().map(vector::pattern).collect();
+    let report = vector::compare(&vectors_of_input()?, &published?)?;
+    Ok(lines(&report))
 }
 
 fn rounded_line(line: &str, direction: Direction, width: &str) -> Result<String, String> {

@@ -13,6 +13,42 @@ pub enum Direction {
     Down,
 }
 
+impl Direction {
+    pub fn named(word: &str) -> Result<Direction, String> {
+        match word {
+            "nearest" => Ok(Direction::Nearest),
+            "zero" => Ok(Direction::TowardZero),
+            "up" => Ok(Direction::Up),
+            "down" => Ok(Direction::Down),
+            _ => Err(format!("{word} is no direction")),
+        }
+    }
+}
+
+/// The width of a reading: binary64, or binary32.
+#[derive(Clone, Copy, Debug, PartialEq, Eq)]
+pub enum Width {
+    Long,
+    Short,
+}
+
+impl Width {
+    pub fn named(word: &str) -> Result<Width, String> {
+        match word {
+            "long" => Ok(Width::Long),
+            "short" => Ok(Width::Short),
+            _ => Err(format!("{word} is no width")),
+        }
+    }
+
+    pub fn format(self) -> Format {
+        match self {
+            Width::Long => BINARY64,
+            Width::Short => BINARY32,
+        }
+    }
+}
+
 /// A binary format of IEEE 754: the bits of its fraction and of its exponent field.
 #[derive(Clone, Copy, Debug, PartialEq, Eq)]
 pub struct Format {
@@ -150,6 +186,26 @@ impl Format {
         let sign = if value.is_negative() { self.sign() } else { 0 };
         sign + below + u64::from(grows)
     }
+
+    /// Whether the value lies halfway between two neighbouring numbers.
+    pub fn is_tie(&self, value: &Exact) -> bool {
+        let size = value.size();
+        let below = self.floor(&size);
+        let excess = size.minus(&self.size_of(below));
+        let missing = self.size_of(below + 1).minus(&size);
+        excess.is_at_most(&missing) && missing.is_at_most(&excess)
+    }
+
+    /// The pattern of the value rounded in the direction, where nearest takes
+    /// the even one of two patterns that are equally near.
+    pub fn round_ties_to_even(&self, value: &Exact, direction: Direction) -> u64 {
+        let away = self.round(value, direction);
+        let tie = direction == Direction::Nearest && self.is_tie(value);
+        match tie && away % 2 == 1 {
+            true => away - 1,
+            false => away,
+        }
+    }
 }
 
 /// The long reading of a total in units.
@@ -162,6 +218,14 @@ pub fn long_reading(total: &Integer, direction: Direction) -> u64 {
 /// number in size.
 pub fn short_reading(total: &Integer, direction: Direction) -> Result<u64, Refusal> {
     short_of_long(long_reading(total, direction), direction)
+}
+
+/// The reading of a total in a form.
+pub fn reading(total: &Integer, width: Width, direction: Direction) -> Result<u64, Refusal> {
+    match width {
+        Width::Long => Ok(long_reading(total, direction)),
+        Width::Short => short_reading(total, direction),
+    }
 }
 
 /// The short reading made from the long reading of a total. Only total zero has
