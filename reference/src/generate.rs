@@ -21,15 +21,15 @@ impl Generator {
     }
 
     /// A number below the limit.
-    fn below(&mut self, limit: u64) -> u64 {
+    pub fn below(&mut self, limit: u64) -> u64 {
         (self.number() >> 11) % limit
     }
 
-    fn one_in(&mut self, n: u64) -> bool {
+    pub fn one_in(&mut self, n: u64) -> bool {
         self.below(n) == 0
     }
 
-    fn choose<T: Copy>(&mut self, from: &[T]) -> T {
+    pub fn choose<T: Copy>(&mut self, from: &[T]) -> T {
         from[self.below(from.len() as u64) as usize]
     }
 }
@@ -91,7 +91,7 @@ fn short_fraction(random: &mut Generator) -> u64 {
 
 /// A field that is accepted: a pattern with an exponent field of the range, a
 /// count or, rarely, a zero.
-fn accepted_field(random: &mut Generator, exponents: Range<u64>) -> String {
+pub fn accepted_field(random: &mut Generator, exponents: Range<u64>) -> String {
     let sign = random.below(2) << 63;
     match random.below(16) {
         0 => format!("p{:016x}", sign),
@@ -164,7 +164,7 @@ fn cancelling_lines(
 }
 
 /// A field of the right shape that may be refused, often near a limit.
-fn any_field(random: &mut Generator) -> String {
+pub fn any_field(random: &mut Generator) -> String {
     let sign = random.below(2) << 63;
     let near = |random: &mut Generator, number: i64| number + random.below(5) as i64 - 2;
     match random.below(8) {
@@ -195,14 +195,14 @@ fn any_field(random: &mut Generator) -> String {
     }
 }
 
-fn any_line(random: &mut Generator) -> String {
+pub fn any_line(random: &mut Generator) -> String {
     let first = any_field(random);
     let second = any_field(random);
     line(word(random), &first, &second)
 }
 
 /// A line of the right shape with one to three damages.
-fn damaged_line(random: &mut Generator) -> Vec<u8> {
+pub fn damaged_line(random: &mut Generator) -> Vec<u8> {
     let mut line = any_line(random).into_bytes();
     for _ in 0..1 + random.below(3) {
         damage(random, &mut line);

@@ -8,6 +8,8 @@ pub mod factors;
 pub mod generate;
 pub mod kinds;
 pub mod line;
+pub mod play;
+pub mod queues;
 pub mod refusal;
 pub mod rounding;
 pub mod run;

@@ -1,4 +1,4 @@
-//! The command `reference`: reports of sheets, roundings of values, readings of vectors, and generated sheets.
+//! The command `reference`: reports of sheets, answers to queues, roundings of values, readings of vectors, and generated sheets and queues.
 
 use std::fs;
 use std::io::{self, BufRead, Read, Write};
@@ -8,6 +8,8 @@ use std::process::ExitCode;
 use reference::bigint::Integer;
 use reference::generate;
 use reference::kinds::UNIT_POWER;
+use reference::play;
+use reference::queues;
 use reference::rounding::{long_reading, short_reading, Direction, Exact, BINARY32, BINARY64};
 use reference::run::CAPACITY;
 use reference::sheet;
@@ -19,6 +21,8 @@ const USAGE: &str = "usage:
   reference names DIR        the names of these files, one to a line
   reference generate NAME    a generated sheet: wide, near, cancelling-wide, cancelling-near,
                              boundaries, damaged or bytes
+  reference queues           the queues that are played: cases, refusals and generated mixes
+  reference play < FILE      the answers to the steps of a queue
   reference round DIRECTION WIDTH
                              reads lines 'HEX POWER', an integer times 2^POWER, and prints
                              the pattern of each. DIRECTION: nearest, zero, up, down.
@@ -40,6 +44,8 @@ fn main() -> ExitCode {
         ["sheets", folder] => reports_of_folder(Path::new(folder)),
         ["names", folder] => names(Path::new(folder)).map(|names| lines(&names)),
         ["generate", name] => generate::sheet(name).ok_or(format!("no sheet is called {name}")),
+        ["queues"] => Ok(queues::text().into_bytes()),
+        ["play"] => answers_to_input(),
         ["round", direction, width] => rounded_input(direction, width),
         ["readings"] => readings_of_input(),
         ["published", file] => published_of_input(Path::new(file)),
@@ -70,6 +76,11 @@ fn report_of_input() -> Answer {
         .read_to_end(&mut bytes)
         .map_err(|e| e.to_string())?;
     Ok(sheet::report(&bytes, CAPACITY).into_bytes())
+}
+
+fn answers_to_input() -> Answer {
+    let text = io::read_to_string(io::stdin()).map_err(|e| e.to_string())?;
+    Ok(play::answers(&text).into_bytes())
 }
 
 /// The names of the files of a folder, in byte order.

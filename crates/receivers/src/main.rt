@@ -51,7 +51,10 @@ fn main(rt: LibcRuntime) -> Result<(), AnyError> {
     compare(&mut out, &FIRST_WITH_MORE, &SECOND)?;
     writeln!(out)?;
     let reading = resumed_reading();
-    writeln!(out, "2 times 3, sealed and resumed, and 4 times 5: {reading:016x}")?;
+    writeln!(
+        out,
+        "2 times 3, sealed and resumed, and 4 times 5: {reading:016x}"
+    )?;
     out.flush()?;
     Ok(())
 }

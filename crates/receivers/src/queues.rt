@@ -81,20 +81,16 @@ const SECOND_CALLS: [Call<'static>; 5] = [
 ];
 
 /// The second receiver's queue.
-pub const SECOND: [Leg<'static>; 1] = [
-    Leg {
-        calls: &SECOND_CALLS,
-        readings: &[],
-    },
-];
+pub const SECOND: [Leg<'static>; 1] = [Leg {
+    calls: &SECOND_CALLS,
+    readings: &[],
+}];
 
 /// 2^-484 × 2^-484, which the second receiver did not hear.
-const MORE: [Call<'static>; 1] = [
-    Call::Take(
-        Elements::Patterns(&[0x21b0_0000_0000_0000]),
-        Elements::Patterns(&[0x21b0_0000_0000_0000]),
-    ),
-];
+const MORE: [Call<'static>; 1] = [Call::Take(
+    Elements::Patterns(&[0x21b0_0000_0000_0000]),
+    Elements::Patterns(&[0x21b0_0000_0000_0000]),
+)];
 
 /// The first receiver's queue with one product above zero more.
 pub const FIRST_WITH_MORE: [Leg<'static>; 3] = [

@@ -71,11 +71,7 @@ fn show_text<W: Write>(out: &mut W, line: &[u8]) -> io::Result<()> {
 
 /// `ok`, or the three numbers of a refusal.
 pub fn show_answer<W: Write>(out: &mut W, answer: Answer) -> io::Result<()> {
-    let Answer {
-        code,
-        place,
-        side,
-    } = answer;
+    let Answer { code, place, side } = answer;
     if code == 0 {
         return write!(out, "ok");
     }
