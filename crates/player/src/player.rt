@@ -29,7 +29,7 @@ pub enum Player {
 
 impl Player {
     /// Makes a step, or leaves everything as it is where the state does not allow it.
-    pub fn play(&mut self, step: &Step) -> Reply {
+    pub(crate) fn play(&mut self, step: &Step) -> Reply {
         if let Step::Open(table) = step {
             *self = Player::opened(*table);
             return Reply::Done;

@@ -17,7 +17,7 @@ pub enum Reply {
 
 impl Reply {
     /// The answer of a call that enters products.
-    pub fn of_call(result: Result<(), Refusal>) -> Reply {
+    pub(crate) fn of_call(result: Result<(), Refusal>) -> Reply {
         match result {
             Ok(()) => Reply::Done,
             Err(refusal) => Reply::Refused(refusal),
@@ -25,7 +25,7 @@ impl Reply {
     }
 
     /// The answer of a reading.
-    pub fn of_reading(result: Result<u64, Refusal>) -> Reply {
+    pub(crate) fn of_reading(result: Result<u64, Refusal>) -> Reply {
         match result {
             Ok(pattern) => Reply::Pattern(pattern),
             Err(refusal) => Reply::Refused(refusal),

@@ -25,7 +25,7 @@ pub enum Elements {
 
 impl Elements {
     /// The same elements, lent to a call.
-    pub fn lent(&self) -> queue::Elements<'_> {
+    pub(crate) fn lent(&self) -> queue::Elements<'_> {
         match self {
             Elements::Patterns(patterns) => queue::Elements::Patterns(patterns.as_slice()),
             Elements::Counts(counts) => queue::Elements::Counts(counts.as_slice()),
@@ -47,7 +47,7 @@ pub enum Step {
 }
 
 /// The step that a line writes, or none where it writes no step.
-pub fn read_step(heap: Global, line: &str) -> Result<Option<Step>, AllocError> {
+pub(crate) fn read_step(heap: Global, line: &str) -> Result<Option<Step>, AllocError> {
     match line.split_once(" ") {
         None => read_word(heap, line),
         Some(("line", text)) => read_sheet_line(heap, text),

@@ -3,7 +3,7 @@ use std::alloc::AllocError;
 use std::alloc::Global;
 
 /// Patterns parted by commas, each of 16 digits.
-pub fn read_patterns(heap: Global, list: &str) -> Result<Option<Vec<u64>>, AllocError> {
+pub(crate) fn read_patterns(heap: Global, list: &str) -> Result<Option<Vec<u64>>, AllocError> {
     let mut patterns = Vec::new(heap);
     if list.is_empty() {
         return Ok(Some(patterns));
@@ -18,7 +18,7 @@ pub fn read_patterns(heap: Global, list: &str) -> Result<Option<Vec<u64>>, Alloc
 }
 
 /// Counts parted by commas.
-pub fn read_counts(heap: Global, list: &str) -> Result<Option<Vec<i32>>, AllocError> {
+pub(crate) fn read_counts(heap: Global, list: &str) -> Result<Option<Vec<i32>>, AllocError> {
     let mut counts = Vec::new(heap);
     if list.is_empty() {
         return Ok(Some(counts));
@@ -63,7 +63,7 @@ enum Next {
 }
 
 /// The bytes of a text in which `\t`, `\n`, `\\` and `\x` with two digits each stand for one byte.
-pub fn read_bytes(heap: Global, text: &[u8]) -> Result<Option<Vec<u8>>, AllocError> {
+pub(crate) fn read_bytes(heap: Global, text: &[u8]) -> Result<Option<Vec<u8>>, AllocError> {
     let mut bytes = Vec::new(heap);
     let mut skip = 0usize;
     for at in 0..text.len() {

@@ -9,7 +9,7 @@ use std::io;
 use std::io::Write;
 
 /// A call as one step of a text queue.
-pub fn show_call<W: Write>(out: &mut W, call: &Call) -> io::Result<()> {
+pub(crate) fn show_call<W: Write>(out: &mut W, call: &Call) -> io::Result<()> {
     match call {
         Call::Take(firsts, seconds) => show_slices(out, "take", firsts, seconds),
         Call::Withdraw(firsts, seconds) => show_slices(out, "withdraw", firsts, seconds),
@@ -70,7 +70,7 @@ fn show_text<W: Write>(out: &mut W, line: &[u8]) -> io::Result<()> {
 }
 
 /// `ok`, or the three numbers of a refusal.
-pub fn show_answer<W: Write>(out: &mut W, answer: Answer) -> io::Result<()> {
+pub(crate) fn show_answer<W: Write>(out: &mut W, answer: Answer) -> io::Result<()> {
     let Answer { code, place, side } = answer;
     if code == 0 {
         return write!(out, "ok");
@@ -79,7 +79,7 @@ pub fn show_answer<W: Write>(out: &mut W, answer: Answer) -> io::Result<()> {
 }
 
 /// The name of a direction.
-pub fn direction_name(direction: Direction) -> &'static str {
+pub(crate) fn direction_name(direction: Direction) -> &'static str {
     match direction {
         Direction::Nearest => "nearest",
         Direction::TowardZero => "zero",
@@ -89,7 +89,7 @@ pub fn direction_name(direction: Direction) -> &'static str {
 }
 
 /// The name of a width.
-pub fn width_name(width: Width) -> &'static str {
+pub(crate) fn width_name(width: Width) -> &'static str {
     match width {
         Width::Long => "long",
         Width::Short => "short",
@@ -97,7 +97,7 @@ pub fn width_name(width: Width) -> &'static str {
 }
 
 /// A reading as one step of a text queue.
-pub fn show_form<W: Write>(out: &mut W, form: Form) -> io::Result<()> {
+pub(crate) fn show_form<W: Write>(out: &mut W, form: Form) -> io::Result<()> {
     let direction = direction_name(form.direction);
     let width = width_name(form.width);
     write!(out, "read {direction} {width}")

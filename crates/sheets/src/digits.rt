@@ -23,7 +23,7 @@ fn digit_worth(byte: u8) -> u64
 }
 
 /// The byte that writes a digit below 16.
-pub fn digit_byte(digit: u8) -> u8
+pub(crate) fn digit_byte(digit: u8) -> u8
     requires { ⌜ digit < 16 ⌝ }
     ensures answer { λ r. ⌜ r ≡ digitByte digit ⌝ }
 {
@@ -35,7 +35,7 @@ pub fn digit_byte(digit: u8) -> u8
 }
 
 /// The digits at the front of the text, at most `most`, so few that their number fits.
-pub fn read_digits(text: &[u8], radix: u64, most: usize) -> Numeral
+pub(crate) fn read_digits(text: &[u8], radix: u64, most: usize) -> Numeral
     requires { ⌜ radix ^ most ≤ 2 ^ 64 ⌝ ∗ ⌜ 0 < radix ⌝ }
     ensures count { λ r. ⌜ r .count ≡ run radix most (now (text .entry)) ⌝ }
     ensures value { λ r. ⌜ r .number ≡ numberOf radix (take (r .count) (now (text .entry))) ⌝ }
