@@ -3,6 +3,9 @@ ghost use mathlib.Core.Path.{_≡_};
 ghost use lib.ListN.{length};
 ghost use Rattle.sheets.specs.Outputs.{Fits, handed};
 ghost use Rattle.sheets.specs.Reports.{refusedReport};
+ghost use lib.Ieee.{binary64};
+ghost use Rattle.readings.specs.declared.forms.Direction.the-variants.{Nearest};
+ghost use Rattle.readings.specs.Rounding.{Rounds};
 ghost use Rattle.reports.specs.Sheets.{SumWritten};
 use crate::sheet::RefusedLine;
 use condensers::condenser::Condenser;
@@ -26,5 +29,29 @@ impl RefusedLine {
 pub fn write_total<C: Condenser + Drop>(run: &Sealed<C>, out: &mut [u8]) -> Result<usize, Refusal>
     ensures answer { λ r. ⌜ SumWritten (C·Condenser .total (now (run .entry) .condenser)) (C·Condenser .count (now (run .entry) .condenser)) (now (out .entry)) (now (out .exit)) r ⌝ }
 {
-    write_sum(run.read_long(Direction::Nearest), run.products(), out)
+    write_run(run, out)
+}
+
+fn write_run<C: Condenser + Drop>(run: &Sealed<C>, out: &mut [u8]) -> Result<usize, Refusal>
+    ensures answer { λ r. ⌜ SumWritten (C·Condenser .total (now (run .entry) .condenser)) (C·Condenser .count (now (run .entry) .condenser)) (now (out .entry)) (now (out .exit)) r ⌝ }
+{
+    let Sum { pattern, products } = sum_of(run);
+    write_sum(pattern, products, out)
+}
+
+/// What the sum report tells.
+#[derive(Clone, Copy)]
+struct Sum {
+    pattern: u64,
+    products: u64,
+}
+
+fn sum_of<C: Condenser + Drop>(run: &Sealed<C>) -> Sum
+    ensures value { λ r. ⌜ Rounds binary64 Nearest (C·Condenser .total (now (run .entry) .condenser)) (r .pattern) ⌝ }
+    ensures count { λ r. ⌜ r .products ≡ C·Condenser .count (now (run .entry) .condenser) ⌝ }
+{
+    Sum {
+        pattern: run.read_long(Direction::Nearest),
+        products: run.products(),
+    }
 }

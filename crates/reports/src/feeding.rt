@@ -20,6 +20,13 @@ impl<C: Condenser + Drop> Sheet<C> {
     pub fn new(condenser: C) -> Sheet<C>
         ensures law { λ r. ⌜ Stands (C·Condenser .capacity) (C·Condenser .total) (C·Condenser .count) [] r ⌝ }
     {
+        Sheet::begin(condenser)
+    }
+
+    /// A run that is opened, and a splitter before its first line.
+    fn begin(condenser: C) -> Sheet<C>
+        ensures law { λ r. ⌜ Stands (C·Condenser .capacity) (C·Condenser .total) (C·Condenser .count) [] r ⌝ }
+    {
         Sheet {
             run: Open::new(condenser),
             lines: Splitter::new(),

@@ -26,6 +26,13 @@ impl<C: Condenser + Drop> Sheet<C> {
     pub fn report_part<W: Write>(&mut self, bytes: &[u8], out: &mut W) -> Result<(), AnyError>
         ensures after { λ r. ⌜ (isOk r ≡ true → (past : List ℕ) → Stands (C·Condenser .capacity) (C·Condenser .total) (C·Condenser .count) past (now (self .entry)) → Stands (C·Condenser .capacity) (C·Condenser .total) (C·Condenser .count) (past ++ now (bytes .entry)) (now (self .exit))) ⌝ }
     {
+        self.report_lines(bytes, out)
+    }
+
+    /// Line by line.
+    fn report_lines<W: Write>(&mut self, bytes: &[u8], out: &mut W) -> Result<(), AnyError>
+        ensures after { λ r. ⌜ (isOk r ≡ true → (past : List ℕ) → Stands (C·Condenser .capacity) (C·Condenser .total) (C·Condenser .count) past (now (self .entry)) → Stands (C·Condenser .capacity) (C·Condenser .total) (C·Condenser .count) (past ++ now (bytes .entry)) (now (self .exit))) ⌝ }
+    {
         let mut at = 0;
         while at < bytes.len() {
             let Fed { taken, refused } = self.feed(&bytes[at..]);

@@ -7,7 +7,7 @@ use lib.ListN.{length, length-drop}
 use lib.Seq.{take-all}
 use Rattle.reports.specs.Sheets.{Stands}
 use Rattle.reports.proofs.Standing.{left-is, next-part}
-use Rattle.reports.proofs.sheet.Sheet.report_part.Needs as need
+use Rattle.reports.proofs.sheet.Sheet.report_lines.Needs as need
 
 pub loop-at-again : need.loop-at-again
 loop-at-again g c =

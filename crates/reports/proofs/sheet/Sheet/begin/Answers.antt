@@ -1,7 +1,7 @@
 -- Nothing has come in, and nothing was entered. Assumes nothing.
 use Rattle.runs.specs.Bags.{entrySum}
 use Rattle.runs.specs.Queues.{bagFrom}
-use Rattle.reports.proofs.sheet.Sheet.new.Needs as need
+use Rattle.reports.proofs.sheet.Sheet.begin.Needs as need
 
 pub returns : need.returns
 unfolding entrySum bagFrom

@@ -3,7 +3,7 @@ use Prim.Native.Nat.{ℕ, _-_, _≤_}
 use mathlib.Core.List.{List, _++_}
 use lib.ListN.{length, take}
 use Rattle.reports.specs.Sheets.{Stands}
-use Rattle.reports.proofs.sheet.Sheet.report_part.Given as given
+use Rattle.reports.proofs.sheet.Sheet.report_lines.Given as given
 
 abbrev pub Inv-loop-at : given.InvT-loop-at
 Inv-loop-at g l =
