@@ -1,0 +1,1 @@
+-- Lemmas of `run_trials`: none that proofs share.
