@@ -8,6 +8,8 @@ use numbers::counts::CountsKind;
 use numbers::patterns::Patterns;
 use numbers::patterns::PatternsKind;
 use readings::forms::Direction;
+use runs::agreement::ReportDebug;
+use runs::agreement::ReportPartialEq;
 use runs::agreement::compare_queues;
 use runs::queue::Answer;
 use runs::queue::AnswerDebug;
