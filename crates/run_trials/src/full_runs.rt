@@ -63,23 +63,20 @@ const CALLS: [Call<'static>; 7] = [
     Call::SheetLine(b"add\tc2147483648\tc1"),
 ];
 
-const SMALL: [Leg<'static>; 1] = [
-    Leg {
-        calls: &CALLS,
-        readings: &[],
-    },
-];
+const SMALL: [Leg<'static>; 1] = [Leg {
+    calls: &CALLS,
+    readings: &[],
+}];
 
-const LARGE_CALLS: [Call<'static>; 1] = [
-    Call::Withdraw(Elements::Counts(&[-3]), Elements::Counts(&[1])),
-];
+const LARGE_CALLS: [Call<'static>; 1] = [Call::Withdraw(
+    Elements::Counts(&[-3]),
+    Elements::Counts(&[1]),
+)];
 
-const MORE_CALLS: [Call<'static>; 1] = [
-    Call::Take(
-        Elements::Patterns(&[0x4014_0000_0000_0000]),
-        Elements::Counts(&[7]),
-    ),
-];
+const MORE_CALLS: [Call<'static>; 1] = [Call::Take(
+    Elements::Patterns(&[0x4014_0000_0000_0000]),
+    Elements::Counts(&[7]),
+)];
 
 const LARGE: [Leg<'static>; 2] = [
     Leg {
