@@ -14,7 +14,8 @@ enum Width {
 
 #[derive(Clone, Debug, PartialEq, Eq)]
 enum Step {
-    Open,
+    /// On a condenser of this capacity.
+    Open(u64),
     Slices(Word, Vec<Element>, Vec<Element>),
     Line(Vec<u8>),
     Seal,
@@ -58,7 +59,8 @@ fn step_of(line: &str) -> Option<Step> {
     }
     let words: Vec<&str> = line.split(' ').collect();
     Some(match words[..] {
-        ["open", "pairing" | "column"] => Step::Open,
+        ["open", "pairing" | "column"] => Step::Open(CAPACITY),
+        ["open", "duo"] => Step::Open(2),
         ["take", first, second] => Step::Slices(Word::Add, slice_of(first)?, slice_of(second)?),
         ["withdraw", first, second] => Step::Slices(Word::Sub, slice_of(first)?, slice_of(second)?),
         ["seal"] => Step::Seal,
@@ -164,7 +166,7 @@ impl State {
     fn step(&mut self, step: Step) -> String {
         let ok = |()| "ok".to_string();
         match (std::mem::replace(self, State::Nothing), step) {
-            (_, Step::Open) => self.pass(State::Open(Run::open(CAPACITY)), ok(())),
+            (_, Step::Open(capacity)) => self.pass(State::Open(Run::open(capacity)), ok(())),
             (State::Open(mut run), Step::Slices(word, first, second)) => {
                 let answer = answer_of(run.slices(word, &first, &second).map(ok));
                 self.pass(State::Open(run), answer)
@@ -245,6 +247,17 @@ mod tests {
             assert_ne!(played(&["open column", step])[1], "state");
             assert_eq!(played(&["open column", "seal", step])[2], "state");
         }
+    }
+
+    #[test]
+    fn a_duo_has_room_for_two_products() {
+        let steps = [
+            "open duo",
+            "take c:1,2,3 c:1,1,1",
+            "take c:1,2 c:1,1",
+            r"line add\tc1\tc1",
+        ];
+        assert_eq!(played(&steps), ["ok", "no 4 2 0", "ok", "no 4 0 0"]);
     }
 
     #[test]

@@ -13,9 +13,12 @@ const NO_FACTOR: &str = "3ff0000004000000";
 pub fn text() -> String {
     let mut text = CASES.to_string();
     for table in ["pairing", "column"] {
-        text += &refused_slices(table);
-        text += &refused_lines(table);
+        let opening = format!("open {table}\n");
+        text += &refused_slices(&opening);
+        text += &refused_lines(&opening);
     }
+    text += &refused_lines("open duo\ntake c:5 c:7\n");
+    text += &refused_lines("open duo\nwithdraw c:5,1 c:7,1\n");
     for (number, exponents) in RANGES.into_iter().enumerate() {
         let start = (number as u64 + 1) * 0x3c6ef372fe94f82b;
         let steps = mix(&mut Generator::new(start), exponents);
@@ -23,12 +26,14 @@ pub fn text() -> String {
             text += &format!("# Mix {number}\nopen {table}\n{steps}");
         }
     }
+    let steps = mix(&mut Generator::new(0x1b873593cc9e2d51), 1010..1040);
+    text += &format!("# A run that is soon full\nopen duo\n{steps}");
     text
 }
 
 /// Calls on slices in which every element is accepted, not finite or no factor, in all combinations.
-fn refused_slices(table: &str) -> String {
-    let mut text = format!("# Refused slices\nopen {table}\n");
+fn refused_slices(opening: &str) -> String {
+    let mut text = format!("# Refused slices\n{opening}");
     let patterns = [GOOD, NOT_FINITE, NO_FACTOR];
     for [a, b, c, d] in places() {
         let word = if (a + b + c + d) % 2 == 0 {
@@ -57,8 +62,8 @@ fn places() -> impl Iterator<Item = [usize; 4]> {
 }
 
 /// Lines in which each field is accepted, not finite, no factor or out of range, of the right shape and not.
-fn refused_lines(table: &str) -> String {
-    let mut text = format!("# Refused lines\nopen {table}\n");
+fn refused_lines(opening: &str) -> String {
+    let mut text = format!("# Refused lines\n{opening}");
     let fields = [
         format!("p{GOOD}"),
         format!("p{NOT_FINITE}"),
@@ -198,9 +203,9 @@ mod tests {
     }
 
     #[test]
-    fn the_answers_have_every_refusal_of_a_large_run() {
+    fn the_answers_have_every_refusal_of_a_call() {
         let answers = answers(&text());
-        for code in [1, 2, 3, 5, 6, 8] {
+        for code in [1, 2, 3, 4, 5, 6, 8] {
             let start = format!("no {code} ");
             assert!(answers.lines().any(|answer| answer.starts_with(&start)));
         }
@@ -210,7 +215,8 @@ mod tests {
     #[test]
     fn every_mix_is_played_twice_with_the_same_answers() {
         let text = text();
-        let mixes: Vec<String> = text.split("# Mix").skip(1).map(answers).collect();
+        let (large, _) = text.split_once("# A run that is soon full").unwrap();
+        let mixes: Vec<String> = large.split("# Mix").skip(1).map(answers).collect();
         assert_eq!(mixes.len(), 2 * RANGES.len());
         for pair in mixes.chunks(2) {
             assert_eq!(pair[0], pair[1]);

@@ -1,4 +1,4 @@
-//! The run that is played, open or sealed, on one table or the other, and the steps that each state allows.
+//! The run that is played, open or sealed, on a condenser of one make or another, and the steps that each state allows.
 use crate::reply::Reply;
 use crate::step::Elements;
 use crate::step::Step;
@@ -8,6 +8,8 @@ use condensers::column_table::ColumnTable;
 use condensers::condenser::Condenser;
 use condensers::pairing_table::PairingCondenser;
 use condensers::pairing_table::PairingTable;
+use run_trials::duo::Duo;
+use run_trials::duo::DuoCondenser;
 use runs::queue::Call;
 use runs::run::Open;
 use runs::run::Sealed;
@@ -25,6 +27,7 @@ pub enum Player {
     Idle,
     Pairing(Run<PairingTable>),
     Column(Run<ColumnTable>),
+    Duo(Run<Duo>),
 }
 
 impl Player {
@@ -46,6 +49,11 @@ impl Player {
                 *self = Player::Column(next);
                 reply
             }
+            Player::Duo(run) => {
+                let (next, reply) = run.step(step);
+                *self = Player::Duo(next);
+                reply
+            }
         }
     }
 
@@ -53,6 +61,7 @@ impl Player {
         match table {
             Table::Pairing => Player::Pairing(Run::Open(Open::new(PairingTable::new()))),
             Table::Column => Player::Column(Run::Open(Open::new(ColumnTable::new()))),
+            Table::Duo => Player::Duo(Run::Open(Open::new(Duo::Empty))),
         }
     }
 }

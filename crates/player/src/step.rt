@@ -14,6 +14,8 @@ use std::alloc::Global;
 pub enum Table {
     Pairing,
     Column,
+    /// Room for two pieces.
+    Duo,
 }
 
 /// A slice of elements of one kind.
@@ -90,6 +92,7 @@ fn read_open(table: &str) -> Option<Step> {
     match table {
         "pairing" => Some(Step::Open(Table::Pairing)),
         "column" => Some(Step::Open(Table::Column)),
+        "duo" => Some(Step::Open(Table::Duo)),
         _ => None,
     }
 }
