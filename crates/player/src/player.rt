@@ -1,4 +1,6 @@
 //! The run that is played, open or sealed, on a condenser of one make or another, and the steps that each state allows.
+ghost use mathlib.Core.Path.{_≡_};
+ghost use Rattle.player.specs.Played.{condenserOf, isOpen, sortOf, staysOpen, opens};
 use crate::reply::Reply;
 use crate::step::Elements;
 use crate::step::Step;
@@ -77,7 +79,9 @@ impl<C: Condenser + Drop> Run<C> {
 }
 
 /// A step on an open run: a call, or the seal.
-fn open_step<C: Condenser + Drop>(run: Open<C>, step: &Step) -> (Run<C>, Reply) {
+fn open_step<C: Condenser + Drop>(run: Open<C>, step: &Step) -> (Run<C>, Reply)
+    ensures after { λ r. ⌜ isOpen (r .0) ≡ staysOpen (sortOf (now (step .entry))) ⌝ }
+{
     let mut run = run;
     let reply = match step {
         Step::Seal => return (Run::Sealed(run.seal()), Reply::Done),
@@ -106,7 +110,10 @@ fn withdraw<'a, C: Condenser + Drop>(
 }
 
 /// A step on a sealed run: a reading, the count, or the resumption.
-fn sealed_step<C: Condenser + Drop>(run: Sealed<C>, step: &Step) -> (Run<C>, Reply) {
+fn sealed_step<C: Condenser + Drop>(run: Sealed<C>, step: &Step) -> (Run<C>, Reply)
+    ensures unchanged { λ r. ⌜ condenserOf (r .0) ≡ run .condenser ⌝ }
+    ensures after { λ r. ⌜ isOpen (r .0) ≡ opens (sortOf (now (step .entry))) ⌝ }
+{
     let reply = match step {
         Step::Resume => return (Run::Open(run.resume()), Reply::Done),
         Step::Read(form) => Reply::of_reading(run.read(*form)),

@@ -1,0 +1,2 @@
+-- The definitions that the contracts of `player` cite.
+pub mod Played
