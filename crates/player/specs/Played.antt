@@ -30,6 +30,13 @@ sortOf step.Resume = resuming
 sortOf (step.Read form) = asking
 sortOf step.Count = asking
 
+-- whether products may enter an open run
+abbrev pub enters : Sort → Bool
+enters entering = true
+enters sealing = false
+enters resuming = false
+enters asking = false
+
 -- whether an open run stays open
 abbrev pub staysOpen : Sort → Bool
 staysOpen entering = true

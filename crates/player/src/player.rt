@@ -1,6 +1,7 @@
 //! The run that is played, open or sealed, on a condenser of one make or another, and the steps that each state allows.
 ghost use mathlib.Core.Path.{_≡_};
-ghost use Rattle.player.specs.Played.{condenserOf, isOpen, sortOf, staysOpen, opens};
+ghost use mathlib.Core.Bool.{false};
+ghost use Rattle.player.specs.Played.{condenserOf, isOpen, sortOf, enters, staysOpen, opens};
 use crate::reply::Reply;
 use crate::step::Elements;
 use crate::step::Step;
@@ -80,6 +81,7 @@ impl<C: Condenser + Drop> Run<C> {
 
 /// A step on an open run: a call, or the seal.
 fn open_step<C: Condenser + Drop>(run: Open<C>, step: &Step) -> (Run<C>, Reply)
+    ensures unchanged { λ r. ⌜ (enters (sortOf (now (step .entry))) ≡ false → condenserOf (r .0) ≡ run .condenser) ⌝ }
     ensures after { λ r. ⌜ isOpen (r .0) ≡ staysOpen (sortOf (now (step .entry))) ⌝ }
 {
     let mut run = run;
