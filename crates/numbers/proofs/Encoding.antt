@@ -3,15 +3,16 @@ use Prim.Native.Nat.{ℕ, zero, suc, _+_, _-_, _*_, _/_, _%_, _^_, _≤_, _<_}
 use native.Mathlib.Nat.{mul-comm, le-trans, lt-irrefl, lt-of-lt-of-le, mul-le-mul-right, mul-pos}
 use native.Mathlib.Omega.{arith}
 use mathlib.Core.Path.{_≡_, refl, sym, ap, ap₂, subst, _∙_}
-use mathlib.Core.Bool.{Bool, true, false, cond}
-use mathlib.Core.Logic.{_⊎_, inl, inr}
+use mathlib.Core.Bool.{Bool, true, false, cond, _&&_}
+use mathlib.Core.Logic.{_⊎_, inl, inr, ⊎-elim}
 use lib.IntN.{ℤ, pos, _-ℤ_}
+use lib.Dec.{eqb}
 use borrow.Author.Differences.{ints}
 use lib.Pow.{pow-add, pow-pos, pow-mono, shl-lt}
 use Rattle.std.specs.declared.option.Option.{Option}
 use Rattle.std.specs.declared.option.Option.the-variants.{Some}
 use Rattle.std.specs.declared.result.Result.the-variants.{Ok, Err}
-use Rattle.std.proofs.shelf.Tests.{ne-eqb, eq-eqb, cond-false, cond-true}
+use Rattle.std.proofs.shelf.Tests.{ne-eqb, eq-eqb, eqb-true, eqb-false, and-parts, and-cases, cases-eq, cond-false, cond-true}
 use Rattle.numbers.specs.declared.factor.Factor.{Factor}
 use Rattle.numbers.specs.declared.refusal.Reason.{Reason}
 use Rattle.numbers.specs.Acceptance.{FactorValue, Acceptable, Answers}
@@ -96,17 +97,24 @@ zero-test b f t = eq-eqb (patternSize (fieldOf b) (fractionOf b)) 0 (ap (λ (x :
 some-test : (b : ℕ) → (patternSize (fieldOf b) (fractionOf b) ≡ 0 → ⊥) → zeroPattern b ≡ false
 some-test b h = ne-eqb (patternSize (fieldOf b) (fractionOf b)) 0 h
 
-pub not-zero : (b : ℕ) → ((fieldOf b ≡ 0) → (fractionOf b ≡ 0) → ⊥) → patternSize (fieldOf b) (fractionOf b) ≡ 0 → ⊥
-not-zero b h z = let p = size-zero (fieldOf b) (fractionOf b) z in h (p .0) (p .1)
+-- the test for both zeros, by the parts
+pub both-zero : (b : ℕ) → (eqb (fieldOf b) 0 && eqb (fractionOf b) 0) ≡ true → (fieldOf b ≡ 0) × (fractionOf b ≡ 0)
+both-zero b h = let p = and-parts (eqb (fieldOf b) 0) (eqb (fractionOf b) 0) h in (eqb-true (fieldOf b) 0 (p .0), eqb-true (fractionOf b) 0 (p .1))
 
-pub no-value-answer : (b : ℕ) (r : Reason) → fieldOf b ≡ 2047 → codeOf r ≡ 1 → Answers (patternValue b) (Err r)
+pub not-zero : (b : ℕ) → (eqb (fieldOf b) 0 && eqb (fractionOf b) 0) ≡ false → patternSize (fieldOf b) (fractionOf b) ≡ 0 → ⊥
+not-zero b h z = ⊎-elim (λ n. eqb-false (fieldOf b) 0 n (p .0)) (λ n. eqb-false (fractionOf b) 0 n (p .1)) (and-cases (eqb (fieldOf b) 0) (eqb (fractionOf b) 0) h)
+  where
+    p : (fieldOf b ≡ 0) × (fractionOf b ≡ 0)
+    p = size-zero (fieldOf b) (fractionOf b) z
+
+no-value-answer : (b : ℕ) (r : Reason) → fieldOf b ≡ 2047 → codeOf r ≡ 1 → Answers (patternValue b) (Err r)
 no-value-answer b r f code = subst (λ (o : Option ℤ). Answers o (Err r)) (sym (cond-true _ _ _ (eq-eqb (fieldOf b) 2047 f))) code
 
-pub zero-answer : (b : ℕ) (f : Factor) → (fieldOf b ≡ 2047 → ⊥) → fieldOf b ≡ 0 → fractionOf b ≡ 0 → f .significand ≡ 0 → Answers (patternValue b) (Ok f)
-zero-answer b f n h t m =
+pub zero-answer : (b : ℕ) (f : Factor) → fieldOf b ≡ 0 → fractionOf b ≡ 0 → f .significand ≡ 0 → Answers (patternValue b) (Ok f)
+zero-answer b f h t m =
     let is : factorUnits f ≡ pos 0 = ap (λ (x : ℕ). units (f .negative) x (f .exponent)) m ∙ units-zero (f .negative) (f .exponent) in
     let v : signed (signOf b) (patternSize (fieldOf b) (fractionOf b)) ≡ pos 0 = ap (λ (x : ℕ). signed (signOf b) (patternSize x (fractionOf b))) h ∙ ap (signed (signOf b)) t ∙ signed-zero (signOf b) in
-    subst (λ (o : Option ℤ). Answers o (Ok f)) (sym (finite-value b n ∙ ap Some v)) ((subst FactorValue is (own-value f), inl refl), is)
+    subst (λ (o : Option ℤ). Answers o (Ok f)) (sym (finite-value b (λ n. omega arith) ∙ ap Some v)) ((subst FactorValue is (own-value f), inl refl), is)
 
 pub zero-factor : (b : ℕ) (f : Factor) → fieldOf b ≡ 0 → fractionOf b ≡ 0 → f .significand ≡ 0 → PatternFactor b f
 zero-factor b f h t m =
@@ -118,6 +126,15 @@ pub refused-answer : (b : ℕ) (r : Reason) → (fieldOf b ≡ 2047 → ⊥) →
 refused-answer b r n nz why code =
     let small : fractionOf b < 2 ^ 52 = omega arith in
     subst (λ (o : Option ℤ). Answers o (Err r)) (sym (finite-value b n)) (not-acceptable (signOf b) (fieldOf b) (fractionOf b) small nz why, code)
+
+-- outside the window: field 2047 has no value, any other is refused for its size
+pub outside-answer : (b : ℕ) (r : Reason) → (patternSize (fieldOf b) (fractionOf b) ≡ 0 → ⊥) → (fieldOf b < 512) ⊎ (1506 < fieldOf b)
+    → codeOf r ≡ cond (eqb (fieldOf b) 2047) 1 2 → Answers (patternValue b) (Err r)
+outside-answer b r nz why code = go (cases-eq (fieldOf b) 2047)
+  where
+    go : (fieldOf b ≡ 2047) ⊎ (fieldOf b ≡ 2047 → ⊥) → Answers (patternValue b) (Err r)
+    go (inl h) = no-value-answer b r h (code ∙ cond-true _ _ _ (eq-eqb (fieldOf b) 2047 h))
+    go (inr h) = refused-answer b r h nz (⊎-elim inl (λ k. inr (inl k)) why) (code ∙ cond-false _ _ _ (ne-eqb (fieldOf b) 2047 h))
 
 -- a factor's exponent has its limits, and so has the field
 field-low : (f : Factor) (field : ℕ) → f .exponent ≡ pos field -ℤ pos 1048 → 512 ≤ field
@@ -147,5 +164,5 @@ made-answer b f n even sign m e = subst (λ (o : Option ℤ). Answers o (Ok f)) 
 pub made-factor : (b : ℕ) (f : Factor) → f .negative ≡ signOf b → f .significand ≡ 2 ^ 25 + fractionOf b / 2 ^ 27 → f .exponent ≡ pos (fieldOf b) -ℤ pos 1048 → PatternFactor b f
 made-factor b f sign m e =
     let low = field-low f (fieldOf b) e in
-    let z = some-test b (not-zero b (λ h t. omega arith)) in
+    let z = some-test b (λ h. let p = size-zero (fieldOf b) (fractionOf b) h in omega arith) in
     record { sign-is = sign ∙ sym (cond-false _ _ _ z); significand-is = m ∙ sym (cond-false _ _ _ z); exponent-is = e ∙ sym (cond-false _ _ _ z) }

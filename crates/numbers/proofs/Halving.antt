@@ -6,11 +6,9 @@ use mathlib.Core.Path.{_≡_, refl, sym, ap, ap₂, subst, _∙_}
 use mathlib.Core.Bool.{Bool, true, false}
 use mathlib.Core.Logic.{_⊎_, inl, inr}
 use lib.IntN.{ℤ, pos, negsuc, natAbs, _*ℤ_, zero-*ℤ}
-use lib.Signed.{ltZ}
 use lib.Ieee.{unlike}
 use lib.Pow.{pow-add, pow-pos, pow-mono}
 use borrow.Author.Differences.{ints}
-use Rattle.std.proofs.shelf.Tests.{le-ltb}
 use Rattle.numbers.specs.Acceptance.{FactorValue, InWindow, Acceptable}
 use Rattle.numbers.specs.Counts.{isNegative}
 use Rattle.numbers.specs.Products.{oneUnits}
@@ -28,14 +26,11 @@ few-halvings n m h e small (inr l) =
     let o = pow-order (25 + h) 32 n low high in
     omega arith
 
-pub halved : (m h : ℕ) → m % 2 ≡ 0 → m / 2 * 2 ^ (h + 1) ≡ m * 2 ^ h
-halved m h even = ap (λ (x : ℕ). m / 2 * 2 ^ x) turned ∙ pow-shift (m / 2) 1 h ∙ ap (λ (x : ℕ). x * 2 ^ h) whole
+pub halved : (n m k h i : ℕ) → n ≡ m * 2 ^ h → m ≡ 2 * k → i ≡ h + 1 → n ≡ k * 2 ^ i
+halved n m k h i size half more = size ∙ ap (λ (x : ℕ). x * 2 ^ h) (half ∙ mul-comm 2 k) ∙ sym (pow-shift k 1 h) ∙ ap (λ (x : ℕ). k * 2 ^ x) turned
   where
-    turned : h + 1 ≡ 1 + h
+    turned : 1 + h ≡ i
     turned = omega arith
-
-    whole : m / 2 * 2 ^ 1 ≡ m
-    whole = omega arith
 
 -- values
 
@@ -78,15 +73,6 @@ pub count-window : (z : ℤ) → InWindow (z *ℤ oneUnits)
 count-window (pos zero) = inl (zero-*ℤ oneUnits)
 count-window (pos (suc n)) = window-of-size (pos (suc n)) n refl
 count-window (negsuc n) = window-of-size (negsuc n) n refl
-
--- signs
-
-pub negative-is : (w z : ℤ) → w ≡ z → ltZ w (pos 0) ≡ isNegative z
-negative-is w z e = ap (λ (x : ℤ). ltZ x (pos 0)) e ∙ go z
-  where
-    go : (x : ℤ) → ltZ x (pos 0) ≡ isNegative x
-    go (pos n) = le-ltb n 0 (omega arith)
-    go (negsuc n) = refl
 
 -- an accepted count
 pub count-accepted : (z : ℤ) (s : Bool) (m h : ℕ) (e : ℤ) → m < 2 ^ 26 → h ≤ 6 → natAbs z ≡ m * 2 ^ h → e ≡ pos h → s ≡ isNegative z

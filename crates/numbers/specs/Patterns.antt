@@ -1,7 +1,8 @@
 -- The binary64 encoding of IEEE 754: the parts of a pattern, its value, and the factor that it gives.
-use Prim.Native.Nat.{ℕ, zero, suc, _+_, _*_, _/_, _%_, _^_}
+use Prim.Native.Nat.{ℕ, zero, suc, _+_, _*_, _/_, _%_, _^_, _<_, _≤_}
 use mathlib.Core.Path.{_≡_}
 use mathlib.Core.Bool.{Bool, false, cond}
+use mathlib.Core.Logic.{_⊎_}
 use lib.IntN.{ℤ, pos, _-ℤ_}
 use lib.Dec.{eqb, leb}
 use Rattle.std.specs.declared.option.Option.{Option}
@@ -44,3 +45,13 @@ pub record PatternFactor (b : ℕ) (f : Factor) : Type 0 where
 abbrev pub PatternMade : ℕ → Result Factor Reason → Type 0
 PatternMade b (Ok f) = PatternFactor b f
 PatternMade b (Err _) = Unit {0}
+
+-- the exponent of the factor of a pattern in the window, by its field
+abbrev pub ExponentOf : ℕ → Option ℤ → Type 0
+ExponentOf field (Some e) = (512 ≤ field) × (field ≤ 1506) × (e ≡ pos field -ℤ pos 1048)
+ExponentOf field None = (field < 512) ⊎ (1506 < field)
+
+-- the significand of the factor of a pattern, by its fraction
+abbrev pub SignificandOf : ℕ → Option ℕ → Type 0
+SignificandOf t (Some m) = (t % 2 ^ 27 ≡ 0) × (m ≡ 2 ^ 25 + t / 2 ^ 27)
+SignificandOf t None = t % 2 ^ 27 ≡ 0 → ⊥

@@ -18,6 +18,13 @@ impl Piece {
         ensures answer { λ r. ⌜ IsOpposite self r ⌝ }
         ensures value { λ r. ⌜ pieceUnits r ≡ negℤ (pieceUnits self) ⌝ }
     {
+        self.turned()
+    }
+
+    /// The same piece with its sign turned, zero excepted.
+    fn turned(self) -> Piece
+        ensures answer { λ r. ⌜ IsOpposite self r ⌝ }
+    {
         if self.significand == 0 {
             return self;
         }
@@ -41,6 +48,13 @@ impl Factor {
     pub fn times(self, other: Factor) -> Piece
         ensures answer { λ r. ⌜ IsProduct self other r ⌝ }
         ensures value { λ r. ⌜ pieceUnits r *ℤ oneUnits ≡ factorUnits self *ℤ factorUnits other ⌝ }
+    {
+        self.product(other)
+    }
+
+    /// The piece of two factors: its sign, its significand and its exponent.
+    fn product(self, other: Factor) -> Piece
+        ensures answer { λ r. ⌜ IsProduct self other r ⌝ }
     {
         let significand = self.significand as u64 * other.significand as u64;
         if significand == 0 {

@@ -1,54 +1,49 @@
 -- Each pattern is answered by its value. Assumes nothing.
-use Prim.Native.Nat.{_%_, _^_}
+use Prim.Native.Nat.{ℕ, _%_, _^_, _<_}
 use native.Mathlib.Omega.{arith}
-use mathlib.Core.Path.{_≡_, refl}
-use mathlib.Core.Logic.{inl, inr}
+use mathlib.Core.Path.{_≡_, refl, sym, ap, ap₂, subst, _∙_}
+use mathlib.Core.Bool.{_&&_, cond}
+use mathlib.Core.Logic.{_⊎_, inr}
+use lib.Dec.{eqb}
 use borrow.Author.Differences.{ints}
 use Rattle.numbers.specs.Patterns.{fieldOf, fractionOf}
-use Rattle.numbers.proofs.Encoding.{not-zero, no-value-answer, zero-answer, zero-factor, refused-answer, made-answer, made-factor}
+use Rattle.numbers.proofs.Encoding.{both-zero, not-zero, zero-answer, zero-factor, refused-answer, outside-answer, made-answer, made-factor}
 use Rattle.numbers.proofs.Floats.{pattern-value}
 use Rattle.numbers.proofs.patterns.PatternsKind.factor.Needs as need
-use Rattle.numbers.proofs.patterns.PatternsKind.factor.Needs.{else-field-eq0·by·then-field-eq0·else-fraction-eq0, else-field-eq0·by·else-field-eq0, then-field-lt-LOWEST-FIELD·by·then-field-lt-LOWEST-FIELD, then-field-lt-LOWEST-FIELD·by·else-field-lt-LOWEST-FIELD·then-field-gt-HIGHEST-FIELD, then-field-lt-LOWEST-FIELD·by·else-field-lt-LOWEST-FIELD·else-field-gt-HIGHEST-FIELD·then-fraction-ne0}
 
-pub returns-then-field-eq2047 : need.returns-then-field-eq2047
-returns-then-field-eq2047 c =
+pub returns-then-is-zero : need.returns-then-is-zero
+returns-then-is-zero c =
     let b = c .args .element in
-    record { answer = no-value-answer b _ (omega arith) refl; made = tt; value = pattern-value b }
+    let p = c .of-parts .ensures .answer in
+    let z = both-zero b (sym (c .if-is-zero .ensures tt .answer ∙ ap₂ (λ (x y : ℕ). eqb x 0 && eqb y 0) (p .1) (p .2))) in
+    record { answer = zero-answer b _ (z .0) (z .1) refl; made = zero-factor b _ (z .0) (z .1) refl; value = pattern-value b }
 
-pub returns-then-fraction-eq0 : need.returns-then-fraction-eq0
-returns-then-fraction-eq0 c =
+pub returns-in-rest : need.returns-in-rest
+returns-in-rest c =
     let b = c .args .element in
-    let finite : fieldOf b ≡ 2047 → ⊥ = λ h. c .if-field-eq2047 .left (omega arith) in
-    let field : fieldOf b ≡ 0 = omega arith in
-    let fraction : fractionOf b ≡ 0 = omega arith in
-    record {
-      answer = zero-answer b _ finite field fraction refl;
-      made = zero-factor b _ field fraction refl;
-      value = pattern-value b;
-    }
+    let p = c .of-parts .ensures .answer in
+    let nz = not-zero b (sym (c .if-is-zero .ensures tt .answer ∙ ap₂ (λ (x y : ℕ). eqb x 0 && eqb y 0) (p .1) (p .2))) in
+    let outside = subst (λ (x : ℕ). (x < 512) ⊎ (1506 < x)) (p .1) (c .in-rest .ensures tt .answer) in
+    let code = c .reason-outside .ensures .answer ∙ ap (λ (x : ℕ). cond (eqb x 2047) 1 2) (p .1) in
+    record { answer = outside-answer b _ nz outside code; made = tt; value = pattern-value b }
 
-pub returns-then-field-lt-LOWEST-FIELD : need.returns-then-field-lt-LOWEST-FIELD
-returns-then-field-lt-LOWEST-FIELD c =
+pub returns-in-rest-significand : need.returns-in-rest-significand
+returns-in-rest-significand c =
     let b = c .args .element in
-    let finite : fieldOf b ≡ 2047 → ⊥ = λ h. c .if-field-eq2047 .left (omega arith) in
-    let nz = not-zero b (λ f t. elim (c .else-field-eq0 .came) [ else-field-eq0·by·then-field-eq0·else-fraction-eq0 w ↦ w .if-fraction-eq0 .left (omega arith) | else-field-eq0·by·else-field-eq0 w ↦ w .if-field-eq0 .left (omega arith) ]) in
-    record {
-      answer = elim (c .then-field-lt-LOWEST-FIELD .came) [
-        | then-field-lt-LOWEST-FIELD·by·then-field-lt-LOWEST-FIELD w ↦ refused-answer b _ finite nz (inl (omega arith)) refl
-        | then-field-lt-LOWEST-FIELD·by·else-field-lt-LOWEST-FIELD·then-field-gt-HIGHEST-FIELD w ↦ refused-answer b _ finite nz (inr (inl (omega arith))) refl
-        | then-field-lt-LOWEST-FIELD·by·else-field-lt-LOWEST-FIELD·else-field-gt-HIGHEST-FIELD·then-fraction-ne0 w ↦ refused-answer b _ finite nz (inr (inr (λ h. w .if-fraction-ne0 .taken (omega arith)))) refl
-      ];
-      made = tt;
-      value = pattern-value b;
-    }
+    let p = c .of-parts .ensures .answer in
+    let e = c .in-Some .ensures tt .answer in
+    let nz = not-zero b (sym (c .if-is-zero .ensures tt .answer ∙ ap₂ (λ (x y : ℕ). eqb x 0 && eqb y 0) (p .1) (p .2))) in
+    let long = subst (λ (x : ℕ). x % 2 ^ 27 ≡ 0 → ⊥) (p .2) (c .in-rest-significand .ensures tt .answer) in
+    record { answer = refused-answer b _ (λ n. omega arith) nz (inr (inr long)) refl; made = tt; value = pattern-value b }
 
 pub returns : need.returns
 returns c =
     let b = c .args .element in
-    let finite : fieldOf b ≡ 2047 → ⊥ = λ h. c .if-field-eq2047 .left (omega arith) in
-    let short : fractionOf b % 2 ^ 27 ≡ 0 = omega arith in
+    let p = c .of-parts .ensures .answer in
+    let e = c .in-Some .ensures tt .answer in
+    let m = c .in-Some-significand .ensures tt .answer in
     record {
-      answer = made-answer b _ finite short refl (omega arith) (omega (arith, ints));
-      made = made-factor b _ refl (omega arith) (omega (arith, ints));
+      answer = made-answer b _ (λ n. omega arith) (omega arith) (p .0) (omega arith) (omega (arith, ints));
+      made = made-factor b _ (p .0) (omega arith) (omega (arith, ints));
       value = pattern-value b;
     }
