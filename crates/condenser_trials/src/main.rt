@@ -1,4 +1,5 @@
 //! Runs both tables on the same pieces, compares what they hand out, and counts the additions of the pairing table.
+#![tactic(auto)]
 mod additions;
 mod pieces;
 mod small;

@@ -1,4 +1,5 @@
 //! Runs on a condenser of capacity 2, where a call soon finds no room.
+#![tactic(auto)]
 pub mod duo;
 #[cfg(test)]
 mod full_runs;
