@@ -1,5 +1,6 @@
 //! Runs both tables on the same pieces, compares what they hand out, and counts the additions of the pairing table.
 #![tactic(auto)]
+
 mod additions;
 mod pieces;
 mod small;

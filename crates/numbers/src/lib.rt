@@ -1,5 +1,6 @@
 //! Numbers as the library takes them in: refusals, kinds of number, factors, pieces.
 #![tactic(auto)]
+
 pub mod acceptance;
 pub mod counts;
 pub mod factor;

@@ -1,5 +1,6 @@
 //! `player`: plays queues written as text on standard input, one step to a line, and prints the answer to each step.
 #![tactic(auto)]
+
 mod player;
 mod reply;
 mod step;

@@ -1,5 +1,6 @@
 //! Readings: the exact sum of what a condenser hands out, rounded once to a pattern.
 #![tactic(auto)]
+
 pub mod accumulate;
 pub mod forms;
 pub mod laws;

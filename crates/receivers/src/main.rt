@@ -1,5 +1,6 @@
 //! `receivers`: two receivers that heard the same products, played over two makes of condenser, and what they read.
 #![tactic(auto)]
+
 mod queues;
 mod show;
 

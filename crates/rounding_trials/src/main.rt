@@ -1,5 +1,6 @@
 //! Reads rounding vectors, one a line, and prints the reading of each on the pairing table and on the column table.
 #![tactic(auto)]
+
 mod vector;
 
 use condensers::column_table::ColumnTable;

@@ -1,5 +1,6 @@
 //! Runs on a condenser of capacity 2, where a call soon finds no room.
 #![tactic(auto)]
+
 pub mod duo;
 #[cfg(test)]
 mod full_runs;

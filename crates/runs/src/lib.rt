@@ -1,5 +1,6 @@
 //! Runs: an open run takes products, a sealed one is read.
 #![tactic(auto)]
+
 pub mod agreement;
 pub mod batch;
 mod checks;

@@ -1,5 +1,6 @@
 //! Trials of sheets: for each name in `sheets.txt` a heading and the report of that sheet, whose bytes come in chunks of one length after another.
 #![tactic(auto)]
+
 use condensers::pairing_table::PairingTable;
 use reports::sheet::Sheet;
 use std::fs;

@@ -1,5 +1,6 @@
 //! Sheet lines and reports as text: the line reader over borrowed fields, the line writer, the reports.
 #![tactic(auto)]
+
 mod digits;
 pub mod line;
 pub mod reader;

@@ -1,5 +1,6 @@
 //! `total`: the report of the sheet on standard input. It only moves bytes between the streams and the sheet.
 #![tactic(auto)]
+
 use condensers::pairing_table::PairingTable;
 use reports::sheet::Sheet;
 use std::io::{BufWriter, Read, Write};
