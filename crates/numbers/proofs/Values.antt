@@ -34,13 +34,13 @@ product_value_lem a b r p = go (cases_eq r.significand 0)
     go (inl z) =
         ap (λ (x : ℤ). x *ℤ one_units) (nothing r.negative r.significand r.exponent z)
         ∙ zero-*ℤ one_units
-        ∙ sym (zero-product a b (sym p.significand-is ∙ z))
+        ∙ sym (zero-product a b (sym p.significand_is ∙ z))
     go (inr n) =
         let some = ne_eqb r.significand 0 n in
-        let sign = p.sign-is ∙ cond-false _ _ _ some in
-        let exponent = p.exponent-is ∙ cond-false _ _ _ some in
+        let sign = p.sign_is ∙ cond-false _ _ _ some in
+        let exponent = p.exponent_is ∙ cond-false _ _ _ some in
         ap₂ (λ (s : Bool) (e : ℤ). units s r.significand e *ℤ one_units) sign exponent
-        ∙ ap (λ (m : ℕ). units (unlike a.negative b.negative) m (a.exponent +ℤ b.exponent) *ℤ one_units) p.significand-is
+        ∙ ap (λ (m : ℕ). units (unlike a.negative b.negative) m (a.exponent +ℤ b.exponent) *ℤ one_units) p.significand_is
         ∙ some-product a b
 
 -- opposites
@@ -49,9 +49,9 @@ pub opposite_value : (p r : Piece) → IsOpposite p r → piece_units r ≡ neg_
 opposite_value p r o = go (cases_eq p.significand 0)
   where
     go : (p.significand ≡ 0) ⊎ (p.significand ≡ 0 → ⊥) → piece_units r ≡ neg_ℤ (piece_units p)
-    go (inl z) = nothing r.negative r.significand r.exponent (o.significand-is ∙ z) ∙ sym (ap neg_ℤ (nothing p.negative p.significand p.exponent z))
+    go (inl z) = nothing r.negative r.significand r.exponent (o.significand_is ∙ z) ∙ sym (ap neg_ℤ (nothing p.negative p.significand p.exponent z))
     go (inr n) =
-        let sign = o.sign-is ∙ cond-false _ _ _ (ne_eqb p.significand 0 n) in
-        ap₂ (λ (s : Bool) (e : ℤ). units s r.significand e) sign o.exponent-is
-        ∙ ap (λ (m : ℕ). units (not p.negative) m p.exponent) o.significand-is
+        let sign = o.sign_is ∙ cond-false _ _ _ (ne_eqb p.significand 0 n) in
+        ap₂ (λ (s : Bool) (e : ℤ). units s r.significand e) sign o.exponent_is
+        ∙ ap (λ (m : ℕ). units (not p.negative) m p.exponent) o.significand_is
         ∙ units_not p.negative p.significand p.exponent

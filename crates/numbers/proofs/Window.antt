@@ -73,7 +73,7 @@ own_value f =
 
 -- the size of a factor's value
 pub factor-size : {v : ℤ} (w : FactorValue v) → nat_abs v ≡ w.significand * 2 ^ rank w.exponent
-factor-size w = ap nat_abs w.value-is ∙ size-units w.sign w.significand w.exponent
+factor-size w = ap nat_abs w.value_is ∙ size-units w.sign w.significand w.exponent
 
 -- the window's lower end
 pub least : rank (negsuc 510) ≡ 563

@@ -34,12 +34,12 @@ halved s (suc (suc h)) S e (inr g) =
 
 count-factor : Yields (factor (pos 67108864) 33554432 (pos 1))
 unfolding acceptable rank units size span climb
-count-factor = (refl, λ f c. let z = halved f.significand c.halvings f.short c.size_is c.needed in (z.0, c.exponent-is ∙ ap pos z.1))
+count-factor = (refl, λ f c. let z = halved f.significand c.halvings f.short c.size_is c.needed in (z.0, c.exponent_is ∙ ap pos z.1))
 
 piece : Yields (square 67108863 (pos 0) 4503599493152769 (pos 0))
 piece f r m e p =
-    let size : r.significand ≡ 4503599493152769 = p.significand-is ∙ ap (λ (a : ℕ). a * f.significand) m ∙ ap (λ (a : ℕ). 67108863 * a) m in
-    (size, p.exponent-is ∙ ap (λ (a : ℕ). cond (eqb a 0) (pos 0) (f.exponent +ℤ f.exponent)) size ∙ ap (λ (z : ℤ). z +ℤ f.exponent) e ∙ ap (λ (z : ℤ). pos 0 +ℤ z) e)
+    let size : r.significand ≡ 4503599493152769 = p.significand_is ∙ ap (λ (a : ℕ). a * f.significand) m ∙ ap (λ (a : ℕ). 67108863 * a) m in
+    (size, p.exponent_is ∙ ap (λ (a : ℕ). cond (eqb a 0) (pos 0) (f.exponent +ℤ f.exponent)) size ∙ ap (λ (z : ℤ). z +ℤ f.exponent) e ∙ ap (λ (z : ℤ). pos 0 +ℤ z) e)
 
 -- ---- sums
 

@@ -111,4 +111,4 @@ pub one-report : (capacity : ℕ) (sheet a b : List ℕ) → SheetReport capacit
 one-report capacity sheet a b p q =
     let bag = lines_bag capacity (sheet_lines sheet) in
     let same = at_most_one binary64 Nearest (exact_sum bag) p.pattern q.pattern p.rounds q.rounds in
-    p.text-is ∙ ap (λ (x : ℕ). refused_reports (refusals capacity (sheet_lines sheet)) ++ sum_report x (length bag)) same ∙ sym q.text-is
+    p.text_is ∙ ap (λ (x : ℕ). refused_reports (refusals capacity (sheet_lines sheet)) ++ sum_report x (length bag)) same ∙ sym q.text_is

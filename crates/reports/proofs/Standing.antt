@@ -48,7 +48,7 @@ module _ {C : Type 0} (capacity : ℕ) (total : C → ℤ) (count : C → ℕ) (
   enters_ok m =
       record {
         holds = made_holds capacity total count before after (line_call line) (Ok tt) bag m h;
-        refused_is = subst (λ (k : ℕ). [] ≡ refused_as n (call_outcome capacity k (line_call line))) h.count-is (go (call_outcome capacity (count before) (line_call line)) m.answer);
+        refused_is = subst (λ (k : ℕ). [] ≡ refused_as n (call_outcome capacity k (line_call line))) h.count_is (go (call_outcome capacity (count before) (line_call line)) m.answer);
       }
     where
       go : (o : Outcome) → Says o (Ok tt) → [] ≡ refused_as n o
@@ -59,7 +59,7 @@ module _ {C : Type 0} (capacity : ℕ) (total : C → ℤ) (count : C → ℕ) (
   enters_err e m r is =
       record {
         holds = made_holds capacity total count before after (line_call line) (Err e) bag m h;
-        refused_is = ap (λ (x : RefusedLine). x ∷ []) is ∙ subst (λ (k : ℕ). (record { line = n; code = code_of e.reason; place = e.place } ∷ []) ≡ refused_as n (call_outcome capacity k (line_call line))) h.count-is (go (call_outcome capacity (count before) (line_call line)) m.answer);
+        refused_is = ap (λ (x : RefusedLine). x ∷ []) is ∙ subst (λ (k : ℕ). (record { line = n; code = code_of e.reason; place = e.place } ∷ []) ≡ refused_as n (call_outcome capacity k (line_call line))) h.count_is (go (call_outcome capacity (count before) (line_call line)) m.answer);
       }
     where
       go : (o : Outcome) → Says o (Err e) → (record { line = n; code = code_of e.reason; place = e.place } ∷ []) ≡ refused_as n o
@@ -98,7 +98,7 @@ module _ {C : Type 0} (capacity : ℕ) (total : C → ℤ) (count : C → ℕ) (
   holds_more = subst (Holds total count after) (sym (lines_push capacity lines l)) en.holds
 
   pub refusals_more : n ≡ length lines + 1 → refusals capacity (lines ++ (l ∷ [])) ≡ refusals capacity lines ++ listed r
-  refusals_more h = refusals_push capacity lines l n h ∙ ap (λ rs. refusals capacity lines ++ rs) (sym en.refused-is)
+  refusals_more h = refusals_push capacity lines l n h ∙ ap (λ rs. refusals capacity lines ++ rs) (sym en.refused_is)
 
 -- the end of a sheet
 

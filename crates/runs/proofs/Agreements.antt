@@ -21,7 +21,7 @@ agree d a b p q rp rq =
       first = rp;
       second = rq;
       same = λ h. rounding_laws_lem.at_most_one binary64 d (exact_sum b) p q (subst (λ (x : ℤ). Rounds binary64 d x p) (exact_same a b h) rp) rq;
-      order = λ h u v eu ev. rounding_laws_lem.keeps-order binary64 d (exact_sum b) (exact_sum a) q p v u (exact-order a b h) rq rp ev eu;
+      order = λ h u v eu ev. rounding_laws_lem.keeps_order binary64 d (exact_sum b) (exact_sum a) q p v u (exact-order a b h) rq rp ev eu;
     }
 
 pub agreement_by_values_lem : AgreementByValues

@@ -88,14 +88,14 @@ module _ (line word first second : List ℕ) (p : Parts line word first second) 
       go (inr w) = ap (drop 4) (p.whole ∙ ap (λ (x : List ℕ). line_text x first second) w)
 
   first_is : before_tab (drop 4 line) ≡ first
-  first_is = ap before_tab fields ∙ before_tab_lem first second (field_no_tab first p.is-first)
+  first_is = ap before_tab fields ∙ before_tab_lem first second (field_no_tab first p.is_first)
 
   second_is : behind_tab (drop 4 line) ≡ second
-  second_is = ap behind_tab fields ∙ behind_tab_lem first second (field_no_tab first p.is-first)
+  second_is = ap behind_tab fields ∙ behind_tab_lem first second (field_no_tab first p.is_first)
 
   pair : Lang pair_shape (first ++ (9 ∷ second))
   unfolding pair_shape
-  pair = field_on _ first (9 ∷ second) p.is-first (refl, p.is-second)
+  pair = field_on _ first (9 ∷ second) p.is_first (refl, p.is_second)
 
   is_line : Lang line_shape line
   unfolding line_shape
@@ -151,7 +151,7 @@ out-false text h = go (field_out text) refl
 
 astray_once : (f : Form) (text : List ℕ) (p q : ℕ) → Astray f text p → Astray f text q → p ≡ q
 astray_once f text p q a b =
-    le_antisymm (subst (λ (x : ℕ). x ≤ q) a.shares (b.most a.nearest a.is-form)) (subst (λ (x : ℕ). x ≤ p) b.shares (a.most b.nearest b.is-form))
+    le_antisymm (subst (λ (x : ℕ). x ≤ q) a.shares (b.most a.nearest a.is_form)) (subst (λ (x : ℕ). x ≤ p) b.shares (a.most b.nearest b.is_form))
 
 misshapen : (line : List ℕ) (place : ℕ) → Astray line_shape line place → line_reading line ≡ misread 5 place 0
 unfolding line_reading
@@ -199,10 +199,10 @@ pub line-accepted : (bytes : List ℕ) (l : Line) → IsLine bytes l
     → line_reading bytes ≡ product (is_sub l.word) (field_value (field_text l.first)) (place_of l.first) (field_value (field_text l.second)) (place_of l.second)
 line-accepted bytes l h =
     shaped bytes (word_text l.word) first second h.parts
-    ∙ cond-false _ _ _ (out-false first h.first-is.inside)
+    ∙ cond-false _ _ _ (out-false first h.first_is.inside)
     ∙ cond-false _ _ _ (out-false second h.second_is.inside)
     ∙ ap (λ (w : Bool). product w (field_value first) 4 (field_value second) (5 + length first)) (ap withdraws h.parts.whole ∙ withdraws-word l.word first second)
-    ∙ ap₂ (λ (p q : ℕ). product (is_sub l.word) (field_value first) p (field_value second) q) (sym h.first-is.place_is) (sym h.second_is.place_is)
+    ∙ ap₂ (λ (p q : ℕ). product (is_sub l.word) (field_value first) p (field_value second) q) (sym h.first_is.place_is) (sym h.second_is.place_is)
   where
     first : List ℕ
     first = field_text l.first

@@ -51,14 +51,14 @@ module _ {C : Type 0} (capacity : ℕ) (total : C → ℤ) (count : C → ℕ) w
   pub made_holds : (before after : C) (call : ValueCall) (r : Result (Unit {0}) Refusal) (bag : List Entry)
       → Made capacity total count before after call r → Holds total count before bag → Holds total count after (bag_after capacity bag call)
   made_holds before after call r bag m h =
-      subst (λ (n : ℕ). Holds total count after (entered (call_outcome capacity n call) (offered call) ++ bag)) h.count-is
+      subst (λ (n : ℕ). Holds total count after (entered (call_outcome capacity n call) (offered call) ++ bag)) h.count_is
       (go (call_outcome capacity (count before) call) m.after_is)
     where
       go : (o : Outcome) → After total count before after o (offered call) → Holds total count after (entered o (offered call) ++ bag)
       go accepted a =
           record {
-            total_is = a.0 ∙ +ℤ_comm (total before) (entry_sum (offered call)) ∙ ap (λ (x : ℤ). entry_sum (offered call) +ℤ x) h.total-is ∙ sym (sum-append (offered call) bag);
-            count_is = omega (arith, a.1, h.count-is, length-append (offered call) bag);
+            total_is = a.0 ∙ +ℤ_comm (total before) (entry_sum (offered call)) ∙ ap (λ (x : ℤ). entry_sum (offered call) +ℤ x) h.total_is ∙ sym (sum-append (offered call) bag);
+            count_is = omega (arith, a.1, h.count_is, length-append (offered call) bag);
           }
       go (refused code place side) a = subst (λ (c : C). Holds total count c bag) (sym a) h
 
@@ -73,14 +73,14 @@ module _ {C : Type 0} (capacity : ℕ) (total : C → ℤ) (count : C → ℕ) w
   unfolding bag_from answers_from
   resumes_step whole bag buffer place call left before after noted next next' r a s m says n =
       record {
-        now_in = bag_after capacity s.now-in call;
-        holds = made_holds before after call r s.now-in m s.holds;
-        same_bag = s.same-bag;
-        same_answers = s.same-answers ∙ ap (λ (x : Answer). written noted next (x ∷ answers_from capacity (bag_after capacity s.now-in call) left)) (sym answer_is) ∙ note_next noted next next' a _ n;
+        now_in = bag_after capacity s.now_in call;
+        holds = made_holds before after call r s.now_in m s.holds;
+        same_bag = s.same_bag;
+        same_answers = s.same_answers ∙ ap (λ (x : Answer). written noted next (x ∷ answers_from capacity (bag_after capacity s.now_in call) left)) (sym answer_is) ∙ note_next noted next next' a _ n;
       }
     where
-      answer_is : a ≡ answer_of (call_outcome capacity (length s.now-in) call)
-      answer_is = says _ m.answer ∙ ap (λ (k : ℕ). answer_of (call_outcome capacity k call)) s.holds.count-is
+      answer_is : a ≡ answer_of (call_outcome capacity (length s.now_in) call)
+      answer_is = says _ m.answer ∙ ap (λ (k : ℕ). answer_of (call_outcome capacity k call)) s.holds.count_is
 
 -- the next of the calls that are left, and the end of them
 pub next_left : {A : Type 0} (f : A → ValueCall) (xs : List A) (i : ℕ) (d : A) (rest : List ValueCall) → i < length xs
@@ -93,10 +93,10 @@ none_left f xs i rest h = ap (λ ys. map f ys ++ rest) (drop_of_length-le xs h)
 -- one part of a queue after another
 module _ {C : Type 0} (capacity : ℕ) (total : C → ℤ) (count : C → ℕ) where
   pub resumes_on : (whole : List ValueCall) (bag : List Entry) (buffer : List Answer) (place : ℕ) (middle left : List ValueCall) (c c' : C) (noted noted' : List Answer) (next next' : ℕ)
-      (s : Resumes capacity total count whole bag buffer place middle c noted next) → Resumes capacity total count middle s.now-in noted next left c' noted' next'
+      (s : Resumes capacity total count whole bag buffer place middle c noted next) → Resumes capacity total count middle s.now_in noted next left c' noted' next'
       → Resumes capacity total count whole bag buffer place left c' noted' next'
   resumes_on whole bag buffer place middle left c c' noted noted' next next' s t =
-      record { now_in = t.now-in; holds = t.holds; same_bag = s.same-bag ∙ t.same-bag; same_answers = s.same-answers ∙ t.same-answers }
+      record { now_in = t.now_in; holds = t.holds; same_bag = s.same_bag ∙ t.same_bag; same_answers = s.same_answers ∙ t.same_answers }
 
   -- a queue is begun with an empty bag
   pub resumes_none : (whole : List ValueCall) (buffer : List Answer) (c : C) → total c ≡ pos 0 → count c ≡ 0 → Resumes capacity total count whole [] buffer 0 whole c buffer 0
@@ -108,9 +108,9 @@ module _ {C : Type 0} (capacity : ℕ) (total : C → ℤ) (count : C → ℕ) w
       → (total c ≡ exact_sum (bag_of capacity whole)) × (count c ≡ length (bag_of capacity whole)) × (noted ≡ written buffer 0 (answers_of capacity whole))
   unfolding bag_from answers_from written
   resumes_all whole buffer c noted next s = (
-    s.holds.total-is ∙ ap entry_sum (sym s.same-bag) ∙ sym (sum_of_entries (bag_of capacity whole)),
-    s.holds.count-is ∙ ap length (sym s.same-bag),
-    sym s.same-answers,
+    s.holds.total_is ∙ ap entry_sum (sym s.same_bag) ∙ sym (sum_of_entries (bag_of capacity whole)),
+    s.holds.count_is ∙ ap length (sym s.same_bag),
+    sym s.same_answers,
   )
 
 pub next_leg : (queue : List Leg) (i : ℕ) (d : Leg) → i < length queue → calls_of (drop i queue) ≡ map value_call (get_or queue i d).calls.now ++ calls_of (drop (i + 1) queue)

@@ -126,11 +126,11 @@ module _ (line : List ℕ) (w : Word) (front : line ≡ word_text w ++ (9 ∷ dr
         line_read h f g some also =
             let is : IsField (between 4 tab line) 4 f = subst (λ o. MatchOption o (OutOfRange (between 4 tab line)) (λ f. IsField (between 4 tab line) 4 f)) some first.field_is in
             let js : IsField (between (tab + 1) other.end line) (tab + 1) g = subst (λ o. MatchOption o (OutOfRange (between (tab + 1) other.end line)) (λ f. IsField (between (tab + 1) other.end line) (tab + 1) f)) also second.field_is in
-            let place : tab + 1 ≡ 5 + length (field_text f) = sym first-length ∙ ap (λ t. 5 + length t) (sym is.bytes-are) in
+            let place : tab + 1 ≡ 5 + length (field_text f) = sym first-length ∙ ap (λ t. 5 + length t) (sym is.bytes_are) in
             record {
-              parts = subst (λ t. Parts line (word_text w) t (field_text g)) (sym is.bytes-are) (subst (λ t. Parts line (word_text w) (between 4 tab line) t) (sym js.bytes-are) (parts_are h));
-              first_is = subst (λ t. IsField t 4 f) (sym is.bytes-are) is;
-              second_is = subst (λ p. IsField (field_text g) p g) place (subst (λ t. IsField t (tab + 1) g) (sym js.bytes-are) js);
+              parts = subst (λ t. Parts line (word_text w) t (field_text g)) (sym is.bytes_are) (subst (λ t. Parts line (word_text w) (between 4 tab line) t) (sym js.bytes_are) (parts_are h));
+              first_is = subst (λ t. IsField t 4 f) (sym is.bytes_are) is;
+              second_is = subst (λ p. IsField (field_text g) p g) place (subst (λ t. IsField t (tab + 1) g) (sym js.bytes_are) js);
             }
 
         pub has_parts : length line ≤ other.end → tab + 1 < 2 ^ 64 → HasParts line (record { word = w; tab = tab; first = found.field; second = other.field })

@@ -60,7 +60,7 @@ module _ (line : List ℕ) (at letter : ℕ) (is-letter : get_or line at 0 ≡ l
         record {
           later = omega arith;
           within = omega (arith, t.within, length-drop (at + 1) line);
-          is_field = subst (Lang (field_shape end)) (sym bytes) (leads.is_field (take r.len (drop (at + 1) line)) t.is-shape);
+          is_field = subst (Lang (field_shape end)) (sym bytes) (leads.is_field (take r.len (drop (at + 1) line)) t.is_shape);
           goes_on = λ rest closed. along rest closed;
           field_is = is;
         }
@@ -76,14 +76,14 @@ module _ (line : List ℕ) (at letter : ℕ) (is-letter : get_or line at 0 ≡ l
     pub field_none : (r : Read E) → TextAt shape text outside (drop (at + 1) line) r → r.element ≡ None → FieldAt line at (record { end = at + 1 + r.len; field = None })
     field_none r t none =
         let bytes = take r.len (drop (at + 1) line) in
-        let out : outside bytes = subst (λ o. MatchOption o (outside bytes) (λ e. (text e ≡ bytes) × (outside bytes → ⊥))) none t.element-is in
+        let out : outside bytes = subst (λ o. MatchOption o (outside bytes) (λ e. (text e ≡ bytes) × (outside bytes → ⊥))) none t.element_is in
         field_at r t None (subst OutOfRange (sym (field_bytes r.len)) (leads.out bytes out))
 
     -- and else with the field that holds the element
     pub field_some : (r : Read E) → TextAt shape text outside (drop (at + 1) line) r → (e : E) → r.element ≡ Some e → (f : Field) → field_text f ≡ letter ∷ take r.len (drop (at + 1) line) → place_of f ≡ at → Proper f → (text e ≡ take r.len (drop (at + 1) line) → Writes f) → FieldAt line at (record { end = at + 1 + r.len; field = Some f })
     field_some r t e some f holds place proper writes =
         let bytes = take r.len (drop (at + 1) line) in
-        let is : (text e ≡ bytes) × (outside bytes → ⊥) = subst (λ o. MatchOption o (outside bytes) (λ e. (text e ≡ bytes) × (outside bytes → ⊥))) some t.element-is in
+        let is : (text e ≡ bytes) × (outside bytes → ⊥) = subst (λ o. MatchOption o (outside bytes) (λ e. (text e ≡ bytes) × (outside bytes → ⊥))) some t.element_is in
         field_at r t (Some f)
         (record {
           bytes_are = holds ∙ sym (field_bytes r.len);

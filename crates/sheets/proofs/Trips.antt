@@ -125,7 +125,7 @@ parts_once line word first second v f g p e l h =
     let fronts = front_once word v (9 ∷ (first ++ (9 ∷ second))) (9 ∷ (f ++ (9 ∷ g))) (word-length word p.is_word ∙ sym l) joined in
     let rest = fronts.1 in
     let tails : first ++ (9 ∷ second) ≡ f ++ (9 ∷ g) = cc in
-    let fields = part_once first second f g (field_no_tab first p.is-first) (field_no_tab f h) tails in
+    let fields = part_once first second f g (field_no_tab first p.is_first) (field_no_tab f h) tails in
     (fronts.0, fields.0, fields.1)
 
 same_word : (v w : Word) → word_text v ≡ word_text w → v ≡ w
@@ -143,15 +143,15 @@ pub trip : (w : Word) (k l : ℕ) {sk sl : Form → Form} {ok ol : List ℕ → 
 trip w k l tk tl hk hl a b r read = go r read
   where
     first : Lang (field_shape end) (k ∷ tk)
-    first = a.leads.is_field tk a.is-shape
+    first = a.leads.is_field tk a.is_shape
 
     second : Lang (field_shape end) (l ∷ tl)
-    second = b.leads.is_field tl b.is-shape
+    second = b.leads.is_field tl b.is_shape
 
     go : (r : Result Line Refusal) → ReadsLine (line_text (word_text w) (k ∷ tk) (l ∷ tl)) r → ReadsBack w hk hl r
     go (Ok line) is =
         let parts = parts_once (line_text (word_text w) (k ∷ tk) (l ∷ tl)) (word_text line.word) (field_text line.first) (field_text line.second) (word_text w) (k ∷ tk) (l ∷ tl) is.parts refl (three w) first in
-        (same_word line.word w parts.0, a.back line.first parts.1 is.first-is.proper is.first-is.writes, b.back line.second parts.2 is.second_is.proper is.second_is.writes)
+        (same_word line.word w parts.0, a.back line.first parts.1 is.first_is.proper is.first_is.writes, b.back line.second parts.2 is.second_is.proper is.second_is.writes)
     go (Err e) (inl h) = h.0.none (line_lang w (k ∷ tk) (l ∷ tl) first second)
     go (Err e) (inr (inl h)) =
         let parts = parts_once (line_text (word_text w) (k ∷ tk) (l ∷ tl)) h.word h.first h.second (word_text w) (k ∷ tk) (l ∷ tl) h.parts refl (three w) first in

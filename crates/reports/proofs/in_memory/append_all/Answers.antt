@@ -52,8 +52,8 @@ returns g c =
             text = lines ++ sum_report w.pattern (g.C.Condenser.count c.finish-run.result.run.condenser);
             report = record {
               pattern = w.pattern;
-              rounds = subst (λ (x : ℤ). Rounds binary64 Nearest x w.pattern) (holds.total-is ∙ sym (sum_of_entries bag)) w.rounds;
-              text_is = ap (λ (k : ℕ). lines ++ sum_report w.pattern k) holds.count-is;
+              rounds = subst (λ (x : ℤ). Rounds binary64 Nearest x w.pattern) (holds.total_is ∙ sym (sum_of_entries bag)) w.rounds;
+              text_is = ap (λ (k : ℕ). lines ++ sum_report w.pattern k) holds.count_is;
             };
             filled = w.appends lines c.args.out.now listed_in;
           };

@@ -8,8 +8,8 @@ returns c =
     record {
       answer = record {
         within = λ l. absurd (c.if-k-eq0.false (omega (arith, l)));
-        past_size = λ _. nothing.past-size zero-le;
-        past_sign = λ _. nothing.past-sign zero-le;
-        past_exponent = λ _. nothing.past-exponent zero-le;
+        past_size = λ _. nothing.past_size zero-le;
+        past_sign = λ _. nothing.past_sign zero-le;
+        past_exponent = λ _. nothing.past_exponent zero-le;
       };
     }

@@ -25,7 +25,7 @@ loop-leg-preserved g c =
     let split = next_leg queue l.leg-index nothing (omega arith) in
     let before = subst (λ (left : List ValueCall). Resumes cap total count (calls_of queue) [] c.args.answers.now 0 left l.run.condenser l.answers l.next) split l.invariant in
     let after = resumes_on cap total count (calls_of queue) [] c.args.answers.now 0 _ rest l.run.condenser c.play-calls-next.new.run.condenser l.answers c.play-calls-next.new.answers l.next c.play-calls-next.result
-    before (c.play-calls-next.ensures.after before.now-in rest before.holds) in
+    before (c.play-calls-next.ensures.after before.now_in rest before.holds) in
     subst (λ x. Resumes cap total count (calls_of queue) [] c.args.answers.now 0 rest x c.play-calls-next.new.answers c.play-calls-next.result)
     (sym (c.resume-run.ensures.unchanged ∙ c.seal-sealed.ensures.unchanged)) after
 

@@ -23,6 +23,6 @@ returns c = record { answer = λ bytes is. (result bytes is).0; bytes = λ bytes
         let out = c.args.out.now in
         let l = c.args.line in
         let word = word-put l.word (text_of c.new-text.result) c.word-bytes.result.now (text_of c.put-bytes.new.self) c.new-text.ensures.bytes c.word-bytes.ensures.bytes c.put-bytes.ensures.bytes in
-        let first = c.put-again.ensures.bytes is.first-is.writes ∙ ap (λ t. t ++ (9 ∷ field_text l.first)) word in
+        let first = c.put-again.ensures.bytes is.first_is.writes ∙ ap (λ t. t ++ (9 ∷ field_text l.first)) word in
         let whole : text_of c.put-again-2.new.text ≡ bytes = c.put-again-2.ensures.bytes is.second_is.writes ∙ ap (λ t. t ++ (9 ∷ field_text l.second)) first ∙ sym is.parts.whole in
         copies bytes out c.copy-to.new.out l c.copy-to.result is (subst (λ t. Fits t (length out) c.copy-to.result) whole c.copy-to.ensures.answer) (c.copy-to.ensures.bytes ∙ ap (λ t. handed t out) whole)

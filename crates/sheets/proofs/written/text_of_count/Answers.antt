@@ -23,16 +23,16 @@ returns c =
     elim c.if-element-lt0.branch [
       | then-element-lt0 w ↦
           (let sign : text_of w.put-bytes.new.self ≡ 45 ∷ [] = put_on (text_of c.new-text.result) (text_of w.put-bytes.new.self) [] (45 ∷ []) w.put-bytes.ensures.bytes c.new-text.ensures.bytes (omega arith) in
-          let text = put_on before after (45 ∷ []) (decimal c.from.result) c.put-decimal.ensures.bytes (ap text_of w.text-is ∙ sign) (omega arith) in
+          let text = put_on before after (45 ∷ []) (decimal c.from.result) c.put-decimal.ensures.bytes (ap text_of w.text_is ∙ sign) (omega arith) in
           let below : lt_z z (pos 0) ≡ true = ap (λ y. lt_z y (pos 0)) (sym same) ∙ w.if-element-lt0.true in
           text ∙ ap (λ n. 45 ∷ decimal n) size_is ∙ sym (sign_text z ∙ ap (λ b. spelled b (decimal (nat_abs z))) below))
       | else-element-lt0 w ↦
-          (let text = put_on before after [] (decimal c.from.result) c.put-decimal.ensures.bytes (ap text_of w.text-is ∙ c.new-text.ensures.bytes) (omega arith) in
+          (let text = put_on before after [] (decimal c.from.result) c.put-decimal.ensures.bytes (ap text_of w.text_is ∙ c.new-text.ensures.bytes) (omega arith) in
           let above : lt_z z (pos 0) ≡ false = ap (λ y. lt_z y (pos 0)) (sym same) ∙ w.if-element-lt0.false in
           text ∙ ap decimal size_is ∙ sym (sign_text z ∙ ap (λ b. spelled b (decimal (nat_abs z))) above))
     ] in
     record {
       bytes = whole;
       limits = s.short;
-      law = record { leads = count-leads; is_shape = s.is-shape; inside = λ bad. inside z c.ranges.element (subst (Outside 32) s.number_is bad); back = count-back z (inside z c.ranges.element) };
+      law = record { leads = count-leads; is_shape = s.is_shape; inside = λ bad. inside z c.ranges.element (subst (Outside 32) s.number_is bad); back = count-back z (inside z c.ranges.element) };
     }

@@ -15,7 +15,7 @@ returns-in-err-word g c =
     let m = line_refused c.args.line.now e c.in-err-word.ensures.answer in
     rw (p.1, p.2)
     (record {
-      call = made-misread g.C.Condenser.capacity g.C.Condenser.total g.C.Condenser.count c.args.self.now.condenser (line_reading c.args.line.now) e m.code m.place m.side m.reading m.refused-so;
+      call = made-misread g.C.Condenser.capacity g.C.Condenser.total g.C.Condenser.count c.args.self.now.condenser (line_reading c.args.line.now) e m.code m.place m.side m.reading m.refused_so;
     })
 
 pub returns-in-err-check-room : goal.returns-in-err-check-room
@@ -39,7 +39,7 @@ returns-in-err-piece g c =
     rw (p.1, p.2)
     (record {
       call = made_unfit g.C.Condenser.capacity g.C.Condenser.total g.C.Condenser.count c.args.self.now.condenser (line_reading c.args.line.now) _ _ _ _ _ reading e room
-          (c.in-err-piece.ensures.answer l.first-is.writes l.second-is.writes);
+          (c.in-err-piece.ensures.answer l.first_is.writes l.second-is.writes);
     })
 
 pub returns : goal.returns
@@ -48,7 +48,7 @@ returns g c =
     let reading = line-accepted c.args.line.now c.in-ok-word.field-0 l in
     let is = ap₂ (λ (m n : ℕ). room_outcome m n 1) c.put-limit.ensures.answer c.put-count.ensures.answer in
     let room = says_ok _ tt (subst (λ (o : Outcome). Says o (Ok tt)) is c.in-ok-check-room.ensures.answer) in
-    let made = c.in-ok-piece.ensures.answer l.first-is.writes l.second-is.writes in
+    let made = c.in-ok-piece.ensures.answer l.first_is.writes l.second-is.writes in
     let value = c.entering.ensures.value ∙ ap₂ (λ (w : Bool) (v : ℤ). cond w (neg_ℤ v) v) c.is-withdrawn.ensures.answer made.1 in
     record {
       call = made-entered g.C.Condenser.capacity g.C.Condenser.total g.C.Condenser.count c.args.self.now.condenser (line_reading c.args.line.now) _ _ _ _ _ reading
