@@ -1,6 +1,8 @@
 //! Worked cases of factors and pieces, run.
+use crate::counts::Counts;
 use crate::factor::Factor;
 use crate::kind::Kind;
+use crate::patterns::Patterns;
 use crate::piece::Piece;
 use crate::refusal::Reason;
 use std::test::Fail;
@@ -26,10 +28,7 @@ fn patterns_are_answered(rt: HostRuntime) {
         (0x8000000000000000, (0, false, 0, 0)),
     ];
     for (element, expected) in cases {
-        assert_eq!(rt;
-            numbers_of(<crate::patterns::Patterns as Kind>::factor(element)),
-            expected
-        );
+        assert_eq!(rt; numbers_of(Patterns::factor(element)), expected);
     }
 }
 
@@ -42,16 +41,13 @@ fn counts_are_answered(rt: HostRuntime) {
         (-2_147_483_648, (0, true, 33_554_432, 6)),
     ];
     for (element, expected) in cases {
-        assert_eq!(rt;
-            numbers_of(<crate::counts::Counts as Kind>::factor(element)),
-            expected
-        );
+        assert_eq!(rt; numbers_of(Counts::factor(element)), expected);
     }
 }
 
 #[test]
 fn pieces_are_made(rt: HostRuntime) -> Result<(), Fail> {
-    let largest = <crate::counts::Counts as Kind>::factor(67_108_863)?;
+    let largest = Counts::factor(67_108_863)?;
     let square = largest.times(largest);
     assert_eq!(rt;
         (square.negative, square.significand, square.exponent),

@@ -9,12 +9,12 @@ use Rattle.numbers.proofs.counts.CountsKind.factor.Goals as goal
 stored : (z : ℤ) (n : ℕ) → SFits w32 z → nat_abs (to_z w32 (of_z w32 z)) ≡ n → nat_abs z ≡ n
 stored z n f h = ap nat_abs (sym (to_z-of_z w32 z f)) ∙ h
 
-pub returns-in-default : goal.returns-in-default
-returns-in-default c =
+pub returns-in_default : goal.returns-in_default
+returns-in_default c =
     let h = c.loop-halved.halved in
     let size = stored c.args.element _ c.ranges.element c.loop-halved.invariant.0 in
     let long : 2 ^ 26 ≤ h.size = ltb-false h.size (2 ^ 26) (sym c.loop-halved-test.ensures.answer) in
-    let odd = c.in-default.ensures.answer in
+    let odd = c.in_default.ensures.answer in
     record { answer = (count-refused c.args.element h.size h.halvings size long (λ even. omega arith), refl); made = tt }
 
 pub loop-halved-preserved : goal.loop-halved-preserved

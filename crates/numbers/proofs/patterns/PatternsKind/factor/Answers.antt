@@ -6,29 +6,29 @@ use Rattle.numbers.proofs.Encoding.{both_zero, not_zero, zero-answer, zero-facto
 use Rattle.numbers.proofs.Floats.{pattern-value}
 use Rattle.numbers.proofs.patterns.PatternsKind.factor.Goals as goal
 
-pub returns-then-is-zero : goal.returns-then-is-zero
-returns-then-is-zero c =
+pub returns-then-is_zero : goal.returns-then-is_zero
+returns-then-is_zero c =
     let b = c.args.element in
     let p = c.of-parts.ensures.answer in
-    let z = both_zero b (sym (c.if-is-zero.ensures.answer ∙ ap₂ (λ (x y : ℕ). eqb x 0 && eqb y 0) p.1 p.2)) in
+    let z = both_zero b (sym (c.if-is_zero.ensures.answer ∙ ap₂ (λ (x y : ℕ). eqb x 0 && eqb y 0) p.1 p.2)) in
     record { answer = zero-answer b _ z.0 z.1 refl; made = zero-factor b _ z.0 z.1 refl; value = pattern-value b }
 
-pub returns-in-default : goal.returns-in-default
-returns-in-default c =
+pub returns-in_default : goal.returns-in_default
+returns-in_default c =
     let b = c.args.element in
     let p = c.of-parts.ensures.answer in
-    let nz = not_zero b (sym (c.if-is-zero.ensures.answer ∙ ap₂ (λ (x y : ℕ). eqb x 0 && eqb y 0) p.1 p.2)) in
-    let outside = subst (λ (x : ℕ). (x < 512) ⊎ (1506 < x)) p.1 c.in-default.ensures.answer in
-    let code = c.reason-outside.ensures.answer ∙ ap (λ (x : ℕ). cond (eqb x 2047) 1 2) p.1 in
+    let nz = not_zero b (sym (c.if-is_zero.ensures.answer ∙ ap₂ (λ (x y : ℕ). eqb x 0 && eqb y 0) p.1 p.2)) in
+    let outside = subst (λ (x : ℕ). (x < 512) ⊎ (1506 < x)) p.1 c.in_default.ensures.answer in
+    let code = c.reason_outside.ensures.answer ∙ ap (λ (x : ℕ). cond (eqb x 2047) 1 2) p.1 in
     record { answer = outside_answer b _ nz outside code; made = tt; value = pattern-value b }
 
-pub returns-in-default-significand : goal.returns-in-default-significand
-returns-in-default-significand c =
+pub returns-in_default-significand : goal.returns-in_default-significand
+returns-in_default-significand c =
     let b = c.args.element in
     let p = c.of-parts.ensures.answer in
     let e = c.in-Some.ensures.answer in
-    let nz = not_zero b (sym (c.if-is-zero.ensures.answer ∙ ap₂ (λ (x y : ℕ). eqb x 0 && eqb y 0) p.1 p.2)) in
-    let long = subst (λ (x : ℕ). x % 2 ^ 27 ≡ 0 → ⊥) p.2 c.in-default-significand.ensures.answer in
+    let nz = not_zero b (sym (c.if-is_zero.ensures.answer ∙ ap₂ (λ (x y : ℕ). eqb x 0 && eqb y 0) p.1 p.2)) in
+    let long = subst (λ (x : ℕ). x % 2 ^ 27 ≡ 0 → ⊥) p.2 c.in_default-significand.ensures.answer in
     record { answer = refused-answer b _ (λ n. omega arith) nz (inr (inr long)) refl; made = tt; value = pattern-value b }
 
 pub returns : goal.returns
