@@ -28,29 +28,29 @@ returns-then-piece-eq0 c = record {
   limits = subst (λ (x : ℕ). field_of x < 2047) (sym (pattern_again 0 (lit< tt) (lit< tt))) (lit< tt);
 }
 
-pub float-from-bits-result : goal.float-from-bits-result
-float-from-bits-result c = pattern_no_nan (2 ^ 63 + c.pattern-of-pattern.result) (subst (λ (x : ℕ). x < 2047) (sym (signed_field c.pattern-of-pattern.result)) c.pattern-of-pattern.ensures.limits.1)
+pub float_from_bits-result : goal.float_from_bits-result
+float_from_bits-result c = pattern_no_nan (2 ^ 63 + c.pattern_of-pattern.result) (subst (λ (x : ℕ). x < 2047) (sym (signed_field c.pattern_of-pattern.result)) c.pattern_of-pattern.ensures.limits.1)
 
-pub float-from-bits-result-else-piece : goal.float-from-bits-result-else-piece
-float-from-bits-result-else-piece c = pattern_no_nan c.pattern-of-pattern.result c.pattern-of-pattern.ensures.limits.1
+pub float_from_bits-result-else-piece : goal.float_from_bits-result-else-piece
+float_from_bits-result-else-piece c = pattern_no_nan c.pattern_of-pattern.result c.pattern_of-pattern.ensures.limits.1
 
 pub returns-then-piece : goal.returns-then-piece
 returns-then-piece c =
     let piece = c.args.piece in
-    let p = c.pattern-of-pattern.result in
-    let t = c.pattern-of-pattern.ensures in
+    let p = c.pattern_of-pattern.result in
+    let t = c.pattern_of-pattern.ensures in
     let f : field_of (2 ^ 63 + p) < 2047 = subst (λ (x : ℕ). x < 2047) (sym (signed_field p)) t.limits.1 in
     record {
-      value = made piece (2 ^ 63 + p) p _ (minus_sign p ∙ sym c.if-piece.true) (signed_field p) (signed_fraction p) t.limits.1 t.value c.rank-of.ensures.answer;
+      value = made piece (2 ^ 63 + p) p _ (minus_sign p ∙ sym c.if-piece.true) (signed_field p) (signed_fraction p) t.limits.1 t.value c.rank_of.ensures.answer;
       limits = subst (λ (x : ℕ). field_of x < 2047) (sym (pattern_again (2 ^ 63 + p) (omega arith) f)) f;
     }
 
 pub returns-else-piece : goal.returns-else-piece
 returns-else-piece c =
     let piece = c.args.piece in
-    let p = c.pattern-of-pattern.result in
-    let t = c.pattern-of-pattern.ensures in
+    let p = c.pattern_of-pattern.result in
+    let t = c.pattern_of-pattern.ensures in
     record {
-      value = made piece p p _ (plus_sign p t.limits.0 ∙ sym c.if-piece.false) refl refl t.limits.1 t.value c.rank-of.ensures.answer;
+      value = made piece p p _ (plus_sign p t.limits.0 ∙ sym c.if-piece.false) refl refl t.limits.1 t.value c.rank_of.ensures.answer;
       limits = subst (λ (x : ℕ). field_of x < 2047) (sym (pattern_again p (omega arith) t.limits.1)) t.limits.1;
     }

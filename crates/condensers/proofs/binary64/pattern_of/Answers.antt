@@ -4,11 +4,11 @@ use Rattle.condensers.proofs.Building.{normalised, Moved, moved-pattern}
 use Rattle.condensers.proofs.binary64.pattern_of.Goals as goal
 use Rattle.condensers.proofs.binary64.pattern_of.Goals.{then-room-rank, else-room-rank}
 
-pub overflow-sub-room : goal.overflow-sub-room
-overflow-sub-room c = (normalised c.args.significand c.requires.above c.requires.short).0
+pub overflow_sub-room : goal.overflow_sub-room
+overflow_sub-room c = (normalised c.args.significand c.requires.above c.requires.short).0
 
-pub overflow-add-result : goal.overflow-add-result
-overflow-add-result c =
+pub overflow_add-result : goal.overflow_add-result
+overflow_add-result c =
     let moved : Moved c.args.significand c.args.rank c.if-room-rank.shift =
     elim c.if-room-rank.branch [ then-room-rank w ↦ inl (w.shift-is, omega arith) | else-room-rank w ↦ inr (w.shift-is, w.if-room-rank.false) ]
     in

@@ -3,5 +3,5 @@ use Rattle.std.proofs.Common.{rules}
 use Rattle.condensers.specs.Patterns.{not_nan}
 use Rattle.condensers.proofs.binary64.place_of.Goals as goal
 
-pub float-to-bits-bits : goal.float-to-bits-bits
-float-to-bits-bits c = not_nan c.args.number (search rules) c.requires
+pub float_to_bits-bits : goal.float_to_bits-bits
+float_to_bits-bits c = not_nan c.args.number (search rules) c.requires

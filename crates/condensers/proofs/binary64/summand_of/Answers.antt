@@ -7,16 +7,16 @@ use Rattle.condensers.specs.Pairing.{summand_of}
 use Rattle.condensers.specs.Patterns.{not_nan}
 use Rattle.condensers.proofs.binary64.summand_of.Goals as goal
 
-pub float-to-bits-bits : goal.float-to-bits-bits
-float-to-bits-bits c = not_nan c.args.entry (search rules) c.requires.finite
+pub float_to_bits-bits : goal.float_to_bits-bits
+float_to_bits-bits c = not_nan c.args.entry (search rules) c.requires.finite
 
-pub summand-at-requires : goal.summand-at-requires
-summand-at-requires c =
+pub summand_at-requires : goal.summand_at-requires
+summand_at-requires c =
     let b = to_bits binary64 c.args.entry in
-    subst₂ (λ (m h : ℕ). T (limited (m + b % 2 ^ 52) h)) (sym c.leading-of.ensures.answer) (sym c.height-of.ensures.answer) c.requires.limits
+    subst₂ (λ (m h : ℕ). T (limited (m + b % 2 ^ 52) h)) (sym c.leading_of.ensures.answer) (sym c.height_of.ensures.answer) c.requires.limits
 
 pub returns : goal.returns
 unfolding summand_of
 returns c =
     let b = to_bits binary64 c.args.entry in
-    record { answer = c.summand-at.ensures.answer ∙ ap₂ (λ (m h : ℕ). summand_at (sign_of b) (m + b % 2 ^ 52) h) c.leading-of.ensures.answer c.height-of.ensures.answer }
+    record { answer = c.summand_at.ensures.answer ∙ ap₂ (λ (m h : ℕ). summand_at (sign_of b) (m + b % 2 ^ 52) h) c.leading_of.ensures.answer c.height_of.ensures.answer }

@@ -15,21 +15,20 @@ returns-then-significand-eq0 c = record {
 code-exponent : (h : ℕ) → h ≤ 2080 → to_z w32 (of_z w32 (to_z w32 h -ℤ pos 1074)) ≡ exponent_of h
 code-exponent h l = omega (arith, ints)
 
-pub invariant-of-result-2 : goal.invariant-of-result-2
-invariant-of-result-2 c =
+pub invariant_of-result-2 : goal.invariant_of-result-2
+invariant_of-result-2 c =
     let m = c.args.significand in
     let h = c.args.rank in
     let l : h ≤ 2080 = limited-high m h c.requires in
-    let e = code-exponent h l in (
-      limited-short m h c.requires,
-      (
-        omega (arith, ints),
-        (
-          omega (arith, ints),
-          (subst (λ (x : ℤ). m * 2 ^ rank x ≤ 2 ^ rank (pos 1006)) (sym e) (limited-size m h c.requires), ((λ z. absurd (c.if-significand-eq0.false z)), ((λ z. absurd (c.if-significand-eq0.false z)), tt))),
-        ),
-      ),
-    )
+    let e = code-exponent h l in
+    record {
+      short = limited-short m h c.requires;
+      low = omega (arith, ints);
+      high = omega (arith, ints);
+      bounded = subst (λ (x : ℤ). m * 2 ^ rank x ≤ 2 ^ rank (pos 1006)) (sym e) (limited-size m h c.requires);
+      plus = λ z. absurd (c.if-significand-eq0.false z);
+      plain = λ z. absurd (c.if-significand-eq0.false z);
+    }
 
 pub returns : goal.returns
 returns c =

@@ -18,7 +18,7 @@ returns-then-limbs-i-ne0 c =
     let xs = c.args.limbs.now in
     let h : c.loop-i.i < length xs = omega arith in
     let k : c.loop-i.i < c.args.cut / 64 = omega arith in
-    let g : 0 < natural xs % 2 ^ c.args.cut = shows xs c.args.cut c.loop-i.i (λ i. (c.type-inv.limbs i).fits) h k c.if-limbs-i-ne0.true c.loop-i.invariant in
+    let g : 0 < natural xs % 2 ^ c.args.cut = shows xs c.args.cut c.loop-i.i (λ i. (c.type_inv.limbs i).fits) h k c.if-limbs-i-ne0.true c.loop-i.invariant in
     record { answer = sym (is_true (ltb 0 (natural xs % 2 ^ c.args.cut)) (lt→ltb 0 (natural xs % 2 ^ c.args.cut) g)) }
 
 zero_more : (xs : List ℕ) (i : ℕ) → i < length xs → get_or xs i 0 ≡ 0 → natural (take i xs) ≡ 0 → natural (take (i + 1) xs) ≡ 0
@@ -61,5 +61,5 @@ returns c =
     record {
       answer =
           ap (λ (a : ℕ). not (eqb a 0)) d
-          ∙ decides (natural xs % 2 ^ cut) (get_or xs (cut / 64) 0 % 2 ^ o) (2 ^ (64 * (cut / 64))) (natural (take (cut / 64) xs)) (below_is xs cut (λ i. (c.type-inv.limbs i).fits)) z (pow_pos (64 * (cut / 64)));
+          ∙ decides (natural xs % 2 ^ cut) (get_or xs (cut / 64) 0 % 2 ^ o) (2 ^ (64 * (cut / 64))) (natural (take (cut / 64) xs)) (below_is xs cut (λ i. (c.type_inv.limbs i).fits)) z (pow_pos (64 * (cut / 64)));
     }

@@ -29,7 +29,7 @@ loop-i-preserved c =
     let xs = c.args.limbs.now in
     let i = c.loop-i.i in
     let h : i < length xs = omega arith in
-    elim c.if-limbs-i-ne0.branch [ then-limbs-i-ne0 w ↦ w.bits-is ∙ more xs i (λ j. (c.type-inv.limbs j).fits) h w.if-limbs-i-ne0.true | else-limbs-i-ne0 w ↦ w.bits-is ∙ same xs i c.loop-i.bits h w.if-limbs-i-ne0.false c.loop-i.invariant ]
+    elim c.if-limbs-i-ne0.branch [ then-limbs-i-ne0 w ↦ w.bits-is ∙ more xs i (λ j. (c.type_inv.limbs j).fits) h w.if-limbs-i-ne0.true | else-limbs-i-ne0 w ↦ w.bits-is ∙ same xs i c.loop-i.bits h w.if-limbs-i-ne0.false c.loop-i.invariant ]
 
 pub returns : goal.returns
 returns c = record { answer = c.loop-i.invariant ∙ ap (λ (a : List ℕ). size (natural a)) (take_all c.loop-i.i c.args.limbs.now c.loop-i-test.false) }

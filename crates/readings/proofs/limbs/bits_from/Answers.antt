@@ -10,5 +10,5 @@ returns c =
       answer =
           ap (λ (a : ℕ). (a * 2 ^ 64 + c.limb-2.result) / 2 ^ o % 2 ^ 64) c.limb.ensures.answer
           ∙ ap (λ (a : ℕ). (get_or c.args.limbs.now (c.args.cut / 64 + 1) 0 * 2 ^ 64 + a) / 2 ^ o % 2 ^ 64) c.limb-2.ensures.answer
-          ∙ read_bits c.args.limbs.now c.args.cut (λ i. (c.type-inv.limbs i).fits);
+          ∙ read_bits c.args.limbs.now c.args.cut (λ i. (c.type_inv.limbs i).fits);
     }

@@ -8,7 +8,7 @@ use Rattle.readings.proofs.rounding.size_pattern.Goals as goal
 all : (c : goal.After-carry-into-carry) → Counted (format_of c.args.width) c.args.mode (natural c.args.size.now) c.saturating-sub-dropped.result c.bits-from-kept.result c.carry-into-carry.result
 all c =
     counted (format_of c.args.width) c.args.mode (natural c.args.size.now) c.bit-length.result c.precision-precision.result c.lowest-lowest.result c.saturating-sub-dropped.result c.bits-from-kept.result
-    c.carry-into-carry.result c.left-below.result (few_bits c.args.size.now (λ i. (c.type-inv.size i).fits) c.requires) c.bit-length.ensures.answer c.precision-precision.ensures.answer c.lowest-lowest.ensures.answer
+    c.carry-into-carry.result c.left-below.result (few_bits c.args.size.now (λ i. (c.type_inv.size i).fits) c.requires) c.bit-length.ensures.answer c.precision-precision.ensures.answer c.lowest-lowest.ensures.answer
     c.saturating-sub-dropped.ensures c.bits-from-kept.ensures.answer c.left-below.ensures.answer c.carry-into-carry.ensures.answer c.carry-into-carry.ensures.limits
 
 pub overflow-add-kept : goal.overflow-add-kept
@@ -21,6 +21,6 @@ pub returns : goal.returns
 returns c =
     let z =
     counted (format_of c.args.width) c.args.mode (natural c.args.size.now) c.bit-length.result c.precision-precision.result c.lowest-lowest.result c.saturating-sub-dropped.result c.bits-from-kept.result
-    c.carry-into-carry.result c.left-below.result (few_bits c.args.size.now (λ i. (c.type-inv.size i).fits) c.requires) c.bit-length.ensures.answer c.precision-precision.ensures.answer c.lowest-lowest.ensures.answer
+    c.carry-into-carry.result c.left-below.result (few_bits c.args.size.now (λ i. (c.type_inv.size i).fits) c.requires) c.bit-length.ensures.answer c.precision-precision.ensures.answer c.lowest-lowest.ensures.answer
     c.saturating-sub-dropped.ensures c.bits-from-kept.ensures.answer c.left-below.ensures.answer c.carry-into-carry.ensures.answer c.carry-into-carry.ensures.limits in
     record { answer = c.joined.ensures.answer ∙ z.pattern }

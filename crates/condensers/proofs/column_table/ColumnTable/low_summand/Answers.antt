@@ -4,11 +4,11 @@ use Rattle.condensers.specs.ColumnSummands.{low-limited}
 use Rattle.condensers.proofs.ColumnReads.{low_stands, read_at}
 use Rattle.condensers.proofs.column_table.ColumnTable.low_summand.Goals as goal
 
-pub summand-at-requires : goal.summand-at-requires
-summand-at-requires c = low-limited c.unsigned-abs.result (c.args.k / 2) (omega (arith, c.requires.inside))
+pub summand_at-requires : goal.summand_at-requires
+summand_at-requires c = low-limited c.unsigned_abs.result (c.args.k / 2) (omega (arith, c.requires.inside))
 
 pub returns : goal.returns
 returns c =
     let t = c.args.self.now in
     let k = c.args.k in
-    record { answer = low_stands t k c.unsigned-abs.result _ c.summand-at.result c.requires.inside c.requires.even (read_at t (k / 2)) c.unsigned-abs.ensures.value c.summand-at.ensures.answer }
+    record { answer = low_stands t k c.unsigned_abs.result _ c.summand_at.result c.requires.inside c.requires.even (read_at t (k / 2)) c.unsigned_abs.ensures.value c.summand_at.ensures.answer }

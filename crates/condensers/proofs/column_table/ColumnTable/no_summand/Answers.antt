@@ -5,4 +5,4 @@ use Rattle.condensers.proofs.ColumnReads.{as_many}
 use Rattle.condensers.proofs.column_table.ColumnTable.no_summand.Goals as goal
 
 pub returns : goal.returns
-returns c = record { answer = stands_past _ c.args.k c.summand-at.result (subst (λ (n : ℕ). n ≤ c.args.k) (sym (as_many c.args.self.now)) c.requires) c.summand-at.ensures.answer }
+returns c = record { answer = stands_past _ c.args.k c.summand_at.result (subst (λ (n : ℕ). n ≤ c.args.k) (sym (as_many c.args.self.now)) c.requires) c.summand_at.ensures.answer }

@@ -12,48 +12,48 @@ turn : {t₀ : List Float} {n₀ : ℕ} {x₀ : Float} (s : PairingTable) {x : F
     → Turn s.entries s.count x k
 turn s i at m = record { long = s.long; standing = s.standing; few = s.few; fitting = i.fitting; finite = i.finite; within = i.within; moves = m; there = at }
 
-pub invariant-of-self : goal.invariant-of-self
-invariant-of-self c =
-    let w = turn c.loop-moving.self c.loop-moving.invariant c.place-of-place.ensures.answer c.loop-moving-test.true in
+pub invariant_of-self : goal.invariant_of-self
+invariant_of-self c =
+    let w = turn c.loop-moving.self c.loop-moving.invariant c.place_of-place.ensures.answer c.loop-moving-test.true in
     let e = c.store.ensures.after in
-    (E.stored-long w _ e, (E.stored-standing w _ e, (E.stored-bounded w _ e, (c.loop-moving.self.few, tt))))
+    record { long = E.stored-long w _ e; standing = E.stored_standing w _ e; bounded = E.stored_bounded w _ e; few = c.loop-moving.self.few }
 
 pub returns-then-held : goal.returns-then-held
 returns-then-held c =
     let i = c.loop-moving.invariant in
-    let w = turn c.loop-moving.self i c.place-of-place.ensures.answer c.loop-moving-test.true in
+    let w = turn c.loop-moving.self i c.place_of-place.ensures.answer c.loop-moving-test.true in
     let e = c.store.ensures.after in
-    record { total = E.stored-total w _ e c.if-held.true ∙ i.total; count = i.counted; kept = i.enters _ (E.stored-enters w _ e c.if-held.true) }
+    record { total = E.stored_total w _ e c.if-held.true ∙ i.total; count = i.counted; kept = i.enters _ (E.stored-enters w _ e c.if-held.true) }
 
-pub invariant-of-self-in-loop-moving : goal.invariant-of-self-in-loop-moving
-invariant-of-self-in-loop-moving c =
-    let w = turn c.loop-moving.self c.loop-moving.invariant c.place-of-place.ensures.answer c.loop-moving-test.true in
+pub invariant_of-self-in-loop-moving : goal.invariant_of-self-in-loop-moving
+invariant_of-self-in-loop-moving c =
+    let w = turn c.loop-moving.self c.loop-moving.invariant c.place_of-place.ensures.answer c.loop-moving-test.true in
     let e = c.store-in-loop-moving.ensures.after in
-    (E.paired_long w _ e, (E.paired-standing w _ e, (E.paired-bounded w _ e, (c.loop-moving.self.few, tt))))
+    record { long = E.paired_long w _ e; standing = E.paired_standing w _ e; bounded = E.paired_bounded w _ e; few = c.loop-moving.self.few }
 
-pub sum-of-pair-moving-requires : goal.sum-of-pair-moving-requires
-sum-of-pair-moving-requires c =
-    let w = turn c.loop-moving.self c.loop-moving.invariant c.place-of-place.ensures.answer c.loop-moving-test.true in
-    record { finite = w.finite; paired = E.one_place w c.if-held.false; within = E.sum-fine w c.if-held.false }
+pub sum_of_pair-moving-requires : goal.sum_of_pair-moving-requires
+sum_of_pair-moving-requires c =
+    let w = turn c.loop-moving.self c.loop-moving.invariant c.place_of-place.ensures.answer c.loop-moving-test.true in
+    record { finite = w.finite; paired = E.one_place w c.if-held.false; within = E.sum_fine w c.if-held.false }
 
 pub loop-moving-smaller : goal.loop-moving-smaller
 loop-moving-smaller c =
-    let w = turn c.loop-moving.self c.loop-moving.invariant c.place-of-place.ensures.answer c.loop-moving-test.true in
+    let w = turn c.loop-moving.self c.loop-moving.invariant c.place_of-place.ensures.answer c.loop-moving-test.true in
     E.fewer w _ c.store-in-loop-moving.ensures.after c.if-held.false
 
 pub loop-moving-preserved : goal.loop-moving-preserved
 loop-moving-preserved c =
     let i = c.loop-moving.invariant in
-    let w = turn c.loop-moving.self i c.place-of-place.ensures.answer c.loop-moving-test.true in
+    let w = turn c.loop-moving.self i c.place_of-place.ensures.answer c.loop-moving-test.true in
     let e = c.store-in-loop-moving.ensures.after in
-    let s = c.sum-of-pair-moving in
+    let s = c.sum_of_pair-moving in
     let r = s.ensures in
     record {
-      fitting = subst T (sym s.type-inv) tt;
+      fitting = subst T (sym s.type_inv) tt;
       finite = r.limits;
-      within = E.sum-bounded w _ e c.if-held.false s.result r.answer r.value;
+      within = E.sum_bounded w _ e c.if-held.false s.result r.answer r.value;
       counted = i.counted;
-      total = E.sum-total w _ e c.if-held.false s.result r.answer r.value ∙ i.total;
+      total = E.sum_total w _ e c.if-held.false s.result r.answer r.value ∙ i.total;
       enters = λ u q. i.enters u (E.sum-enters w _ e c.if-held.false s.result r.answer r.value u q);
     }
 

@@ -19,8 +19,8 @@ at_place t k l = subst (λ (m : ℕ). T (stands m (get_or t.entries k nan))) (ze
 at_most : (t : PairingTable) (k : ℕ) → k < 4096 → size (get_or t.entries k nan) ≤ 67108864 * piece_limit
 at_most t k l = le_trans (sum-at size t.entries k (subst (λ (n : ℕ). k < n) (sym t.long) l)) (le_trans t.bounded (mul-le-mul_right piece_limit t.few))
 
-pub summand-of-requires : goal.summand-of-requires
-summand-of-requires c =
+pub summand_of-requires : goal.summand_of-requires
+summand_of-requires c =
     let t = c.args.self.now in
     let k = c.args.k in
     let s = at_place t k c.requires in
@@ -30,8 +30,8 @@ pub returns : goal.returns
 returns c =
     let t = c.args.self.now in
     let k = c.args.k in
-    let r = c.summand-of.result in
+    let r = c.summand_of.result in
     record {
       answer = stands-within _ k r (subst (λ (n : ℕ). k < n) (sym (as_many t)) c.requires)
-          (c.summand-of.ensures.answer ∙ sym (get_or-map summand_of t.entries k nan r (subst (λ (n : ℕ). k < n) (sym t.long) c.requires)));
+          (c.summand_of.ensures.answer ∙ sym (get_or-map summand_of t.entries k nan r (subst (λ (n : ℕ). k < n) (sym t.long) c.requires)));
     }

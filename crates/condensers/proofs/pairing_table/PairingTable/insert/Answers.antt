@@ -19,15 +19,15 @@ piece_size p =
 
 pub enter-requires : goal.enter-requires
 enter-requires c =
-    let x = c.number-of.result in
-    let l : size x ≤ piece_limit = subst (λ (v : ℤ). nat_abs v ≤ piece_limit) (sym (number_is x _ c.number-of.ensures.value)) (piece_size c.args.piece) in
-    record { finite = c.number-of.ensures.limits; within = omega (arith, c.args.self.now.bounded) }
+    let x = c.number_of.result in
+    let l : size x ≤ piece_limit = subst (λ (v : ℤ). nat_abs v ≤ piece_limit) (sym (number_is x _ c.number_of.ensures.value)) (piece_size c.args.piece) in
+    record { finite = c.number_of.ensures.limits; within = omega (arith, c.args.self.now.bounded) }
 
 pub returns : goal.returns
 returns c =
     let t = c.args.self.now in
     record {
-      total = c.enter.ensures.total ∙ ap (λ (v : ℤ). total_of t.entries +ℤ v) (number_is c.number-of.result _ c.number-of.ensures.value);
+      total = c.enter.ensures.total ∙ ap (λ (v : ℤ). total_of t.entries +ℤ v) (number_is c.number_of.result _ c.number_of.ensures.value);
       count = c.enter.ensures.count;
-      kept = (c.number-of.result, subst T (sym c.number-of.type-inv) tt, c.number-of.ensures.value, c.enter.ensures.kept);
+      kept = (c.number_of.result, subst T (sym c.number_of.type_inv) tt, c.number_of.ensures.value, c.enter.ensures.kept);
     }

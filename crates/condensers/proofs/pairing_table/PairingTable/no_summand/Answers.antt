@@ -8,4 +8,4 @@ use Rattle.condensers.proofs.pairing_table.PairingTable.no_summand.Goals as goal
 pub returns : goal.returns
 returns c =
     let t = c.args.self.now in
-    record { answer = stands_past _ c.args.k c.summand-at.result (subst (λ (n : ℕ). n ≤ c.args.k) (sym (length-map t.entries summand_of ∙ t.long)) c.requires) c.summand-at.ensures.answer }
+    record { answer = stands_past _ c.args.k c.summand_at.result (subst (λ (n : ℕ). n ≤ c.args.k) (sym (length-map t.entries summand_of ∙ t.long)) c.requires) c.summand_at.ensures.answer }
