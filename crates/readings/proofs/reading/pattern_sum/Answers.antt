@@ -11,12 +11,12 @@ use Rattle.readings.proofs.reading.pattern_sum.Goals as goal
 room : (z m len : ℕ) → z ≡ 0 → len ≡ 33 → m ≤ largest binary32 → z + m < 2 ^ (64 * len)
 room z m len e l h = subst (λ (a : ℕ). z + m < 2 ^ (64 * a)) (sym l) (lt_of_le_of_lt (le_trans (le_of_eq (ap (λ (a : ℕ). a + m) e ∙ zero-add m)) h) short-room)
 
-pub add-shifted-requires : goal.add-shifted-requires
-add-shifted-requires c =
-    let r = c.significand-of-significand.result in
+pub add_shifted-requires : goal.add_shifted-requires
+add_shifted-requires c =
+    let r = c.significand_of-significand.result in
     record {
-      reach = omega (arith, c.significand-of-significand.ensures.limits.0);
-      room = room (natural c.no-limbs-size.result) (r.0 * 2 ^ r.1) (length c.no-limbs-size.result) c.no-limbs-size.ensures.value (omega arith) c.significand-of-significand.ensures.limits.1;
+      reach = omega (arith, c.significand_of-significand.ensures.limits.0);
+      room = room (natural c.no_limbs-size.result) (r.0 * 2 ^ r.1) (length c.no_limbs-size.result) c.no_limbs-size.ensures.value (omega arith) c.significand_of-significand.ensures.limits.1;
     }
 
 -- what the limbs hold, of a pattern b and its size m
@@ -28,14 +28,14 @@ held b m n z e l o h =
     let L : n ≤ largest binary32 = le_trans (le_of_eq same) l in
     (L, le_trans L short-long, λ k. s.1 (sym same ∙ k), subst (λ (v : ℤ). Encodes binary64 b v) (s.0 ∙ ap (λ (a : ℕ). signed (ltb (2 ^ 63) b) a) (sym same)) e)
 
-pub invariant-of-result : goal.invariant-of-result
-invariant-of-result c =
-    let r = c.significand-of-significand.result in
-    let h = held c.args.pattern (r.0 * 2 ^ r.1) (natural c.add-shifted.new.limbs) (natural c.no-limbs-size.result) c.significand-of-significand.ensures.value c.significand-of-significand.ensures.limits.1 c.no-limbs-size.ensures.value c.add-shifted.ensures.value in
-    (h.1, (h.2, tt))
+pub invariant_of-result : goal.invariant_of-result
+invariant_of-result c =
+    let r = c.significand_of-significand.result in
+    let h = held c.args.pattern (r.0 * 2 ^ r.1) (natural c.add_shifted.new.limbs) (natural c.no_limbs-size.result) c.significand_of-significand.ensures.value c.significand_of-significand.ensures.limits.1 c.no_limbs-size.ensures.value c.add_shifted.ensures.value in
+    record { bounded = h.1; plus = h.2 }
 
 pub returns : goal.returns
 returns c =
-    let r = c.significand-of-significand.result in
-    let h = held c.args.pattern (r.0 * 2 ^ r.1) (natural c.add-shifted.new.limbs) (natural c.no-limbs-size.result) c.significand-of-significand.ensures.value c.significand-of-significand.ensures.limits.1 c.no-limbs-size.ensures.value c.add-shifted.ensures.value in
+    let r = c.significand_of-significand.result in
+    let h = held c.args.pattern (r.0 * 2 ^ r.1) (natural c.add_shifted.new.limbs) (natural c.no_limbs-size.result) c.significand_of-significand.ensures.value c.significand_of-significand.ensures.limits.1 c.no_limbs-size.ensures.value c.add_shifted.ensures.value in
     record { value = h.3; limits = h.0 }

@@ -9,8 +9,8 @@ use Rattle.readings.proofs.Directions.{size_of}
 use Rattle.readings.proofs.Widths.{too_large, short_limit_lem}
 use Rattle.readings.proofs.reading.shortened.Goals as goal
 
-pub returns-then-passes-short : goal.returns-then-passes-short
-returns-then-passes-short c =
+pub returns-then-passes_short : goal.returns-then-passes_short
+returns-then-passes_short c =
     let b = c.args.long in
     record {
       answer = λ x l. (
@@ -18,7 +18,7 @@ returns-then-passes-short c =
           pattern = b;
           number = l.number;
           long = record { rounds = l; encodes = l.encodes };
-          large = too_large b l.number l.encodes (ltb→lt 0x47ef_ffff_e000_0000 (b % 2 ^ 63) (subst T c.if-passes-short.ensures.answer tt));
+          large = too_large b l.number l.encodes (ltb→lt 0x47ef_ffff_e000_0000 (b % 2 ^ 63) (subst T c.if-passes_short.ensures.answer tt));
         },
         (refl, refl, refl),
       );
@@ -26,13 +26,13 @@ returns-then-passes-short c =
 
 pub returns : goal.returns
 returns c =
-    let s = c.pattern-sum.result in
-    let small : nat_abs (sum_value s) ≤ largest binary32 = le_trans (le_of_eq (size_of s.negative (natural s.size))) c.pattern-sum.ensures.limits in
+    let s = c.pattern_sum.result in
+    let small : nat_abs (sum_value s) ≤ largest binary32 = le_trans (le_of_eq (size_of s.negative (natural s.size))) c.pattern_sum.ensures.limits in
     record {
       answer = λ x l. record {
         pattern = c.args.long;
         number = sum_value s;
-        long = record { rounds = l; encodes = c.pattern-sum.ensures.value };
+        long = record { rounds = l; encodes = c.pattern_sum.ensures.value };
         small = subst (λ (a : ℕ). nat_abs (sum_value s) ≤ a) (sym short_limit_lem) small;
         rounds = c.pattern.ensures.answer;
       };

@@ -17,7 +17,7 @@ returns-then-rest c =
     let j = c.args.cut - 1 in
     record {
       answer = above_half n c.args.cut (n / 2 ^ j % 2 ^ 64 % 2) (2 ^ j) (n % 2 ^ j) (under n c.args.cut c.if-cut-eq0.false)
-          (set c.bits-from.result (n / 2 ^ j % 2 ^ 64) c.bits-from.ensures.answer c.if-half.true) (some (n % 2 ^ j) c.if-rest.ensures.answer);
+          (set c.bits_from.result (n / 2 ^ j % 2 ^ 64) c.bits_from.ensures.answer c.if-half.true) (some (n % 2 ^ j) c.if-rest.ensures.answer);
     }
 
 pub returns-else-rest : goal.returns-else-rest
@@ -26,7 +26,7 @@ returns-else-rest c =
     let j = c.args.cut - 1 in
     record {
       answer = at_half n c.args.cut (n / 2 ^ j % 2 ^ 64 % 2) (2 ^ j) (n % 2 ^ j) (under n c.args.cut c.if-cut-eq0.false)
-          (set c.bits-from.result (n / 2 ^ j % 2 ^ 64) c.bits-from.ensures.answer c.if-half.true) (none (n % 2 ^ j) c.if-rest.ensures.answer);
+          (set c.bits_from.result (n / 2 ^ j % 2 ^ 64) c.bits_from.ensures.answer c.if-half.true) (none (n % 2 ^ j) c.if-rest.ensures.answer);
     }
 
 pub returns-then-rest-2 : goal.returns-then-rest-2
@@ -35,7 +35,7 @@ returns-then-rest-2 c =
     let j = c.args.cut - 1 in
     record {
       answer = below_half n c.args.cut (n / 2 ^ j % 2 ^ 64 % 2) (2 ^ j) (n % 2 ^ j) (under n c.args.cut c.if-cut-eq0.false)
-          (clear c.bits-from.result (n / 2 ^ j % 2 ^ 64) c.bits-from.ensures.answer c.if-half.false) (some (n % 2 ^ j) c.if-rest-2.ensures.answer);
+          (clear c.bits_from.result (n / 2 ^ j % 2 ^ 64) c.bits_from.ensures.answer c.if-half.false) (some (n % 2 ^ j) c.if-rest-2.ensures.answer);
     }
 
 pub returns-else-rest-2 : goal.returns-else-rest-2
@@ -44,5 +44,5 @@ returns-else-rest-2 c =
     let j = c.args.cut - 1 in
     record {
       answer = nothing n c.args.cut (n / 2 ^ j % 2 ^ 64 % 2) (2 ^ j) (n % 2 ^ j) (under n c.args.cut c.if-cut-eq0.false)
-          (clear c.bits-from.result (n / 2 ^ j % 2 ^ 64) c.bits-from.ensures.answer c.if-half.false) (none (n % 2 ^ j) c.if-rest-2.ensures.answer);
+          (clear c.bits_from.result (n / 2 ^ j % 2 ^ 64) c.bits_from.ensures.answer c.if-half.false) (none (n % 2 ^ j) c.if-rest-2.ensures.answer);
     }

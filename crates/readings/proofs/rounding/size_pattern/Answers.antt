@@ -5,14 +5,14 @@ use Rattle.readings.specs.Limbs.{natural}
 use Rattle.readings.proofs.Kept.{Counted, counted, few_bits}
 use Rattle.readings.proofs.rounding.size_pattern.Goals as goal
 
-all : (c : goal.After-carry-into-carry) → Counted (format_of c.args.width) c.args.mode (natural c.args.size.now) c.saturating-sub-dropped.result c.bits-from-kept.result c.carry-into-carry.result
+all : (c : goal.After-carry_into-carry) → Counted (format_of c.args.width) c.args.mode (natural c.args.size.now) c.saturating_sub-dropped.result c.bits_from-kept.result c.carry_into-carry.result
 all c =
-    counted (format_of c.args.width) c.args.mode (natural c.args.size.now) c.bit-length.result c.precision-precision.result c.lowest-lowest.result c.saturating-sub-dropped.result c.bits-from-kept.result
-    c.carry-into-carry.result c.left-below.result (few_bits c.args.size.now (λ i. (c.type_inv.size i).fits) c.requires) c.bit-length.ensures.answer c.precision-precision.ensures.answer c.lowest-lowest.ensures.answer
-    c.saturating-sub-dropped.ensures c.bits-from-kept.ensures.answer c.left-below.ensures.answer c.carry-into-carry.ensures.answer c.carry-into-carry.ensures.limits
+    counted (format_of c.args.width) c.args.mode (natural c.args.size.now) c.bit_length.result c.precision-precision.result c.lowest-lowest.result c.saturating_sub-dropped.result c.bits_from-kept.result
+    c.carry_into-carry.result c.left_below.result (few_bits c.args.size.now (λ i. (c.type_inv.size i).fits) c.requires) c.bit_length.ensures.answer c.precision-precision.ensures.answer c.lowest-lowest.ensures.answer
+    c.saturating_sub-dropped.ensures c.bits_from-kept.ensures.answer c.left_below.ensures.answer c.carry_into-carry.ensures.answer c.carry_into-carry.ensures.limits
 
-pub overflow-add-kept : goal.overflow-add-kept
-overflow-add-kept c = record { fits = (all c).ranges }
+pub overflow_add-kept : goal.overflow_add-kept
+overflow_add-kept c = record { fits = (all c).fits }
 
 pub joined-requires : goal.joined-requires
 joined-requires c = (all c).room
@@ -20,7 +20,7 @@ joined-requires c = (all c).room
 pub returns : goal.returns
 returns c =
     let z =
-    counted (format_of c.args.width) c.args.mode (natural c.args.size.now) c.bit-length.result c.precision-precision.result c.lowest-lowest.result c.saturating-sub-dropped.result c.bits-from-kept.result
-    c.carry-into-carry.result c.left-below.result (few_bits c.args.size.now (λ i. (c.type_inv.size i).fits) c.requires) c.bit-length.ensures.answer c.precision-precision.ensures.answer c.lowest-lowest.ensures.answer
-    c.saturating-sub-dropped.ensures c.bits-from-kept.ensures.answer c.left-below.ensures.answer c.carry-into-carry.ensures.answer c.carry-into-carry.ensures.limits in
+    counted (format_of c.args.width) c.args.mode (natural c.args.size.now) c.bit_length.result c.precision-precision.result c.lowest-lowest.result c.saturating_sub-dropped.result c.bits_from-kept.result
+    c.carry_into-carry.result c.left_below.result (few_bits c.args.size.now (λ i. (c.type_inv.size i).fits) c.requires) c.bit_length.ensures.answer c.precision-precision.ensures.answer c.lowest-lowest.ensures.answer
+    c.saturating_sub-dropped.ensures c.bits_from-kept.ensures.answer c.left_below.ensures.answer c.carry_into-carry.ensures.answer c.carry_into-carry.ensures.limits in
     record { answer = c.joined.ensures.answer ∙ z.pattern }

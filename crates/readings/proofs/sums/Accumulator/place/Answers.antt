@@ -9,24 +9,24 @@ use Rattle.readings.proofs.sums.Accumulator.place.Goals as goal
 size : (s places e : ℕ) → places ≡ e → s * 2 ^ e ≤ summand_limit → s * 2 ^ places ≤ summand_limit
 size s places e h k = subst (λ (a : ℕ). s * 2 ^ a ≤ summand_limit) (sym h) k
 
-pub add-shifted-requires : goal.add-shifted-requires
-add-shifted-requires c =
+pub add_shifted-requires : goal.add_shifted-requires
+add_shifted-requires c =
     let a = c.args.self.now in
     let s = c.args.summand in
     record {
       reach = omega arith;
-      room = room (natural a.below) a.taken (s.significand * 2 ^ c.unit-places-shift.result) (length a.below) (omega arith) c.requires a.below_bounded
-          (size s.significand c.unit-places-shift.result (rank s.exponent) c.unit-places-shift.ensures.answer s.bounded);
+      room = room (natural a.below) a.taken (s.significand * 2 ^ c.unit_places-shift.result) (length a.below) (omega arith) c.requires a.below_bounded
+          (size s.significand c.unit_places-shift.result (rank s.exponent) c.unit_places-shift.ensures.answer s.bounded);
     }
 
-pub add-shifted-requires-else-summand : goal.add-shifted-requires-else-summand
-add-shifted-requires-else-summand c =
+pub add_shifted-requires-else-summand : goal.add_shifted-requires-else-summand
+add_shifted-requires-else-summand c =
     let a = c.args.self.now in
     let s = c.args.summand in
     record {
       reach = omega arith;
-      room = room (natural a.above) a.taken (s.significand * 2 ^ c.unit-places-shift.result) (length a.above) (omega arith) c.requires a.above_bounded
-          (size s.significand c.unit-places-shift.result (rank s.exponent) c.unit-places-shift.ensures.answer s.bounded);
+      room = room (natural a.above) a.taken (s.significand * 2 ^ c.unit_places-shift.result) (length a.above) (omega arith) c.requires a.above_bounded
+          (size s.significand c.unit_places-shift.result (rank s.exponent) c.unit_places-shift.ensures.answer s.bounded);
     }
 
 value : (b : Bool) (t : Bool) (s places : ℕ) (e : ℤ) → t ≡ b → places ≡ rank e → units t s e ≡ signed b (s * 2 ^ places)
@@ -37,22 +37,22 @@ pub returns-then-summand : goal.returns-then-summand
 returns-then-summand c =
     let a = c.args.self.now in
     let s = c.args.summand in
-    let v = s.significand * 2 ^ c.unit-places-shift.result in
+    let v = s.significand * 2 ^ c.unit_places-shift.result in
     record {
       count = refl;
       value =
-          below_more (natural a.above) (natural a.below) (natural c.add-shifted.new.limbs) v c.add-shifted.ensures.value
-          ∙ ap (λ (x : ℤ). (pos (natural a.above) -ℤ pos (natural a.below)) +ℤ x) (sym (value true s.negative s.significand c.unit-places-shift.result s.exponent c.if-summand.true c.unit-places-shift.ensures.answer));
+          below_more (natural a.above) (natural a.below) (natural c.add_shifted.new.limbs) v c.add_shifted.ensures.value
+          ∙ ap (λ (x : ℤ). (pos (natural a.above) -ℤ pos (natural a.below)) +ℤ x) (sym (value true s.negative s.significand c.unit_places-shift.result s.exponent c.if-summand.true c.unit_places-shift.ensures.answer));
     }
 
 pub returns-else-summand : goal.returns-else-summand
 returns-else-summand c =
     let a = c.args.self.now in
     let s = c.args.summand in
-    let v = s.significand * 2 ^ c.unit-places-shift.result in
+    let v = s.significand * 2 ^ c.unit_places-shift.result in
     record {
       count = refl;
       value =
-          above_more (natural a.above) (natural c.add-shifted-else-summand.new.limbs) (natural a.below) v c.add-shifted-else-summand.ensures.value
-          ∙ ap (λ (x : ℤ). (pos (natural a.above) -ℤ pos (natural a.below)) +ℤ x) (sym (value false s.negative s.significand c.unit-places-shift.result s.exponent c.if-summand.false c.unit-places-shift.ensures.answer));
+          above_more (natural a.above) (natural c.add_shifted-else-summand.new.limbs) (natural a.below) v c.add_shifted-else-summand.ensures.value
+          ∙ ap (λ (x : ℤ). (pos (natural a.above) -ℤ pos (natural a.below)) +ℤ x) (sym (value false s.negative s.significand c.unit_places-shift.result s.exponent c.if-summand.false c.unit_places-shift.ensures.answer));
     }

@@ -11,10 +11,10 @@ use Rattle.readings.proofs.Directions.{rounded-rounds, size_of}
 use Rattle.readings.proofs.Widths.{rounded_by, signed_fits}
 use Rattle.readings.proofs.sums.ExactSum.pattern.Goals as goal
 
-pub with-sign-requires : goal.with-sign-requires
-with-sign-requires c =
+pub with_sign-requires : goal.with_sign-requires
+with_sign-requires c =
     let f = format_of c.args.width in
-    subst (λ (a : ℕ). top f + a < 2 ^ 64) (sym c.size-pattern-size.ensures.answer) (signed_fits f c.size-mode.result (natural c.args.self.now.size) c.requires)
+    subst (λ (a : ℕ). top f + a < 2 ^ 64) (sym c.size_pattern-size.ensures.answer) (signed_fits f c.size_mode.result (natural c.args.self.now.size) c.requires)
 
 pub returns : goal.returns
 returns c =
@@ -23,8 +23,8 @@ returns c =
     let d = c.args.direction in
     let n = natural s.size in
     let small : nat_abs (sum_value s) ≤ largest f = le_trans (le_of_eq (size_of s.negative n)) c.requires in
-    let is : c.with-sign.result ≡ rounded f d (sum_value s) =
-    c.with-sign.ensures.answer
-    ∙ ap (λ (a : ℕ). cond s.negative (top f) 0 + a) (c.size-pattern-size.ensures.answer ∙ ap (λ (m : Mode). size_pattern f m n) c.size-mode.ensures.answer)
+    let is : c.with_sign.result ≡ rounded f d (sum_value s) =
+    c.with_sign.ensures.answer
+    ∙ ap (λ (a : ℕ). cond s.negative (top f) 0 + a) (c.size_pattern-size.ensures.answer ∙ ap (λ (m : Mode). size_pattern f m n) c.size_mode.ensures.answer)
     ∙ sym (rounded_by f d s.negative n s.plus) in
     record { answer = subst (λ (b : ℕ). Rounds f d (sum_value s) b) (sym is) (rounded-rounds f d (sum_value s) small) }
