@@ -1,8 +1,8 @@
 //! A column table that takes two pieces and no more.
 ghost use Rattle.std.specs.Prelude.{◌≡◌, ◌≤◌};
 ghost use Rattle.condensers.specs.Columns.{column_total, summands_from};
-ghost use Rattle.std.proofs.Common.{arith, le_trans, mul-le-mul_right, rules};
-ghost use Rattle.condensers.specs.ColumnSummands.{summands_length, summands_add_up};
+ghost use Rattle.std.proofs.Common.{lit≤};
+ghost use Rattle.condensers.specs.Laws.{columns_few, columns_exact};
 
 use condensers::column_table::ColumnTable;
 use condensers::condenser::Condenser;
@@ -36,15 +36,15 @@ impl Condenser for Small {
 
     ghost summands = { λ s. summands_from 0 s.table.columns };
 
-    ghost capacity_above = { first_of (Prim.search rules, Prim.grind (arith, Self.row.coded.inj)) };
+    ghost capacity_above = { lit≤ tt };
 
-    ghost capacity_below = { first_of (Prim.search rules, Prim.grind (arith, Self.row.coded.inj)) };
+    ghost capacity_below = { lit≤ tt };
 
-    ghost count_within = { first_of (Prim.search rules, Prim.grind (arith, Self.row.coded.inj)) };
+    ghost count_within = { λ s. s.few };
 
-    ghost summands_few = { λ s. omega (arith, summands_length 0 s.table.columns, s.table.long) };
+    ghost summands_few = { λ s. columns_few s.table.columns s.table.long };
 
-    ghost summands_exact = { λ s. summands_add_up 0 s.table.columns (λ i. le_trans (s.table.bounded i) (mul-le-mul_right 4294967295 s.table.few)) (omega (arith, s.table.long)) };
+    ghost summands_exact = { λ s. columns_exact s.table.columns s.table.count s.table.long s.table.bounded s.table.few };
 
     fn empty(&mut self) {
         self.table.empty();

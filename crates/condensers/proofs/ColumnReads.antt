@@ -7,8 +7,8 @@ use Rattle.condensers.specs.declared.column_table.ColumnTable.{ColumnTable}
 use Rattle.condensers.specs.Meaning.{StandsAt}
 use Rattle.condensers.specs.Handed.{summand_at}
 use Rattle.condensers.specs.Columns.{summands_from, low_summand, high_summand}
-use Rattle.condensers.specs.HandedLemmas.{stands-within}
-use Rattle.condensers.specs.ColumnSummands.{summands_length, low-at, high-at}
+use Rattle.condensers.specs.Laws.Handed.{stands-within}
+use Rattle.condensers.specs.Laws.ColumnSummands.{summands_length, low-at, high-at}
 
 pub as_many : (t : ColumnTable) → length (summands_from 0 t.columns) ≡ 128
 as_many t = summands_length 0 t.columns ∙ ap (λ (n : ℕ). 2 * n) t.long

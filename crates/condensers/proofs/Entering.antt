@@ -8,9 +8,9 @@ use Rattle.numbers.specs.Units.{float_value}
 use Rattle.numbers.specs.Patterns.{field_of}
 use Rattle.condensers.specs.Fields.{place}
 use Rattle.condensers.specs.Pairing.{float_units, size, empty, place_of, stands, stand_from, total_of, sum_of, piece_limit, range_limit, Enters, stored, paired}
-use Rattle.condensers.specs.Patterns.{number_is}
-use Rattle.condensers.specs.Standing.{zero_test, nonzero_test, standing_fits, standing_field, standing_empty, standing_place, stands_there, empty_stands, empty-value}
-use Rattle.condensers.specs.Tables.{stands_at, stands_set, total_set, sum-set, size_none, taken, taken_none, taken-one}
+use Rattle.condensers.specs.Laws.Patterns.{number_is}
+use Rattle.condensers.specs.Laws.Standing.{zero_test, nonzero_test, standing_fits, standing_field, standing_empty, standing_place, stands_there, empty_stands, empty-value}
+use Rattle.condensers.specs.Laws.Tables.{stands_at, stands_set, total_set, sum-set, size_none, taken, taken_none, taken-one}
 
 place_lt : (b : ℕ) → place b < 4096
 place_lt b = omega arith

@@ -1,11 +1,11 @@
 //! The column table: a condenser of 64 signed columns, column j weighing 2^(32 j) units, that takes pieces in parts of 32 bits without carries.
 ghost use Rattle.std.specs.Prelude.{◌≡◌, ℕ, ◌+◌, ◌*◌, ◌%◌, ◌^◌, ◌<◌, ◌≤◌, length, pos, ◌+ℤ◌, MatchOption, slice_index_or, slice_set, unsigned_abs};
+ghost use Rattle.std.proofs.Common.{lit≤};
 ghost use Rattle.numbers.specs.Units.{rank, signed};
 ghost use Rattle.numbers.specs.Products.{piece_units};
 ghost use Rattle.condensers.specs.Meaning.{PutAnswer, PutAfter, StandsAt};
 ghost use Rattle.condensers.specs.Columns.{column_total, summands_from, empty_columns, Gains, PutGains};
-ghost use Rattle.std.proofs.Common.{arith, le_trans, mul-le-mul_right, rules};
-ghost use Rattle.condensers.specs.ColumnSummands.{summands_length, summands_add_up};
+ghost use Rattle.condensers.specs.Laws.{columns_few, columns_exact};
 
 use crate::condenser::Condenser;
 use crate::refusing::full;
@@ -160,15 +160,15 @@ impl Condenser for ColumnTable {
 
     ghost summands = { λ t. summands_from 0 t.columns };
 
-    ghost capacity_above = { first_of (Prim.search rules, Prim.grind (arith, Self.row.coded.inj)) };
+    ghost capacity_above = { lit≤ tt };
 
-    ghost capacity_below = { first_of (Prim.search rules, Prim.grind (arith, Self.row.coded.inj)) };
+    ghost capacity_below = { lit≤ tt };
 
-    ghost count_within = { first_of (Prim.search rules, Prim.grind (arith, Self.row.coded.inj)) };
+    ghost count_within = { λ t. t.few };
 
-    ghost summands_few = { λ t. omega (arith, summands_length 0 t.columns, t.long) };
+    ghost summands_few = { λ t. columns_few t.columns t.long };
 
-    ghost summands_exact = { λ t. summands_add_up 0 t.columns (λ i. le_trans (t.bounded i) (mul-le-mul_right 4294967295 t.few)) (omega (arith, t.long)) };
+    ghost summands_exact = { λ t. columns_exact t.columns t.count t.long t.bounded t.few };
 
     fn empty(&mut self)
         ensures total { column_total self.new.columns ≡ pos 0 }

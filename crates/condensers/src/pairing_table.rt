@@ -1,13 +1,12 @@
 //! The pairing table: a condenser that keeps binary64 numbers, each at the place of its exponent field and lowest fraction bit, and adds two of one place exactly.
 ghost use Rattle.std.specs.Prelude.{◌≡◌, ◌+◌, ◌*◌, ◌<◌, ◌≤◌, T, map, length, pos, ◌+ℤ◌, slice_set, to_bits};
-ghost use Rattle.std.proofs.Common.{◌∙◌, le_of_eq, le_trans, mul-le-mul_right, rules, arith};
-ghost use Rattle.std.proofs.lemmas.List.{length-map};
 ghost use Rattle.std.specs.Float.{binary64};
+ghost use Rattle.std.proofs.Common.{lit≤};
 ghost use Rattle.numbers.specs.Patterns.{field_of};
 ghost use Rattle.numbers.specs.Products.{piece_units};
 ghost use Rattle.condensers.specs.Meaning.{PutAnswer, PutAfter, StandsAt};
 ghost use Rattle.condensers.specs.Pairing.{float_units, size, total_of, sum_of, stand_from, piece_limit, summand_of, empty_table, Enters, PieceEnters, PutEnters};
-ghost use Rattle.condensers.specs.Tables.{summands_add_up};
+ghost use Rattle.condensers.specs.Laws.{entries_few, entries_exact};
 
 use crate::binary64::{number_of, place_of, sum_of_pair, summand_of};
 use crate::condenser::Condenser;
@@ -126,15 +125,15 @@ impl Condenser for PairingTable {
 
     ghost summands = { λ t. map summand_of t.entries };
 
-    ghost capacity_above = { first_of (Prim.search rules, Prim.grind (arith, Self.row.coded.inj)) };
+    ghost capacity_above = { lit≤ tt };
 
-    ghost capacity_below = { first_of (Prim.search rules, Prim.grind (arith, Self.row.coded.inj)) };
+    ghost capacity_below = { lit≤ tt };
 
-    ghost count_within = { first_of (Prim.search rules, Prim.grind (arith, Self.row.coded.inj)) };
+    ghost count_within = { λ t. t.few };
 
-    ghost summands_few = { λ t. le_of_eq (length-map t.entries summand_of ∙ t.long) };
+    ghost summands_few = { λ t. entries_few t.entries t.long };
 
-    ghost summands_exact = { λ t. summands_add_up 0 t.entries t.standing (le_trans t.bounded (mul-le-mul_right piece_limit t.few)) };
+    ghost summands_exact = { λ t. entries_exact t.entries t.count t.standing t.bounded t.few };
 
     fn empty(&mut self)
         ensures total { total_of self.new.entries ≡ pos 0 }

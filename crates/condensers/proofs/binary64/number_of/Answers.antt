@@ -7,7 +7,7 @@ use Rattle.numbers.specs.Products.{piece_units}
 use Rattle.numbers.proofs.Scale.{units-zero}
 use Rattle.numbers.specs.Patterns.{sign_of, field_of}
 use Rattle.condensers.specs.Fields.{leading, significand_of, height_of}
-use Rattle.condensers.specs.Patterns.{pattern_no_nan, pattern_number, pattern_again}
+use Rattle.condensers.specs.Laws.Patterns.{pattern_no_nan, pattern_number, pattern_again}
 use Rattle.condensers.proofs.Building.{plus_sign, minus_sign, signed_field, signed_fraction}
 use Rattle.condensers.proofs.binary64.number_of.Goals as goal
 

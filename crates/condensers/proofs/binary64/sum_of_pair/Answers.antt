@@ -2,8 +2,8 @@
 use Rattle.std.proofs.Common.{refl, rules}
 use lib.Ieee.{binary64, add}
 use lib.Ieee.Fits.{add-fits}
-use Rattle.condensers.specs.Pairs.{pair_exact}
-use Rattle.condensers.specs.Patterns.{finite_field}
+use Rattle.condensers.specs.Laws.Pairs.{pair_exact}
+use Rattle.condensers.specs.Laws.Patterns.{finite_field}
 use Rattle.condensers.proofs.binary64.sum_of_pair.Goals as goal
 
 pub returns : goal.returns

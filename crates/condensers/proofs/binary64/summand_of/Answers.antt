@@ -4,7 +4,7 @@ use lib.Ieee.{binary64, to_bits}
 use Rattle.numbers.specs.Patterns.{sign_of}
 use Rattle.condensers.specs.Handed.{limited, summand_at}
 use Rattle.condensers.specs.Pairing.{summand_of}
-use Rattle.condensers.specs.Patterns.{not_nan}
+use Rattle.condensers.specs.Laws.Patterns.{not_nan}
 use Rattle.condensers.proofs.binary64.summand_of.Goals as goal
 
 pub float_to_bits-bits : goal.float_to_bits-bits

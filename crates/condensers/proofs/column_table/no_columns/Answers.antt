@@ -1,6 +1,6 @@
 -- Zero in every column. Assumes nothing.
 use Rattle.std.proofs.Common.{refl}
-use Rattle.condensers.specs.ColumnsLemmas.{none_total, none_bounded}
+use Rattle.condensers.specs.Laws.Columns.{none_total, none_bounded}
 use Rattle.condensers.proofs.column_table.no_columns.Goals as goal
 
 pub returns : goal.returns

@@ -3,7 +3,7 @@ use Rattle.std.proofs.Common.{◌≡◌, ℕ, ◌*◌, ◌^◌, ◌≤◌, ℤ, 
 use borrow.Author.Differences.{ints}
 use Rattle.numbers.specs.Units.{rank}
 use Rattle.condensers.specs.Handed.{exponent_of}
-use Rattle.condensers.specs.HandedLemmas.{summand_at_is, limited-short, limited-high, limited-size}
+use Rattle.condensers.specs.Laws.Handed.{summand_at_is, limited-short, limited-high, limited-size}
 use Rattle.condensers.proofs.units.summand_at.Goals as goal
 
 pub returns-then-significand-eq0 : goal.returns-then-significand-eq0

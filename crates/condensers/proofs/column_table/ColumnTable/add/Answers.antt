@@ -2,7 +2,7 @@
 use Rattle.std.proofs.Common.{◌≡◌, ℕ, ◌+◌, ◌*◌, ◌/◌, ◌%◌, ◌^◌, ◌<◌, ◌≤◌, ◌≢◌, List, length, get_or, set, ℤ, pos, ◌+ℤ◌, nat_abs, sym, ap, ◌∙◌, subst, arith, get_or-set_other}
 use Rattle.numbers.specs.Units.{signed}
 use Rattle.numbers.proofs.Scale.{signed-zero}
-use Rattle.condensers.specs.ColumnsLemmas.{two_gains, three_gains, Added, third_fits, third_nothing, code-parts}
+use Rattle.condensers.specs.Laws.Columns.{two_gains, three_gains, Added, third_fits, third_nothing, code-parts}
 use Rattle.condensers.proofs.column_table.ColumnTable.add.Goals as goal
 
 -- a column other than the one that was changed keeps its room

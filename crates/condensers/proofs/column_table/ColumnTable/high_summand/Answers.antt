@@ -1,6 +1,6 @@
 -- The summand at an odd index is the high one of its column. Assumes nothing.
 use Rattle.std.proofs.Common.{ℕ, ◌*◌, ◌/◌, ◌≤◌, nat_abs, sym, ap, ◌∙◌, subst, arith}
-use Rattle.condensers.specs.ColumnSummands.{high-limited}
+use Rattle.condensers.specs.Laws.ColumnSummands.{high-limited}
 use Rattle.condensers.proofs.ColumnReads.{high-stands, read_at, at_most}
 use Rattle.condensers.proofs.column_table.ColumnTable.high_summand.Goals as goal
 

@@ -2,7 +2,7 @@
 use Rattle.std.proofs.Common.{◌≡◌, ℕ, ◌*◌, ◌^◌, ◌<◌, ◌≤◌, subst, lt_of_le_of_lt, mul-le-mul, lit<, pow_mono}
 use Rattle.numbers.specs.Units.{rank, units}
 use Rattle.condensers.specs.Columns.{Gains}
-use Rattle.condensers.specs.ColumnsLemmas.{put_total}
+use Rattle.condensers.specs.Laws.Columns.{put_total}
 use Rattle.condensers.proofs.column_table.ColumnTable.insert.Goals as goal
 
 pub returns : goal.returns

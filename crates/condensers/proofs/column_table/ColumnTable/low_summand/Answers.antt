@@ -1,6 +1,6 @@
 -- The summand at an even index is the low one of its column. Assumes nothing.
 use Rattle.std.proofs.Common.{◌/◌, arith}
-use Rattle.condensers.specs.ColumnSummands.{low-limited}
+use Rattle.condensers.specs.Laws.ColumnSummands.{low-limited}
 use Rattle.condensers.proofs.ColumnReads.{low_stands, read_at}
 use Rattle.condensers.proofs.column_table.ColumnTable.low_summand.Goals as goal
 

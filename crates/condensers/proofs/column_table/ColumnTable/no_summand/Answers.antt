@@ -1,6 +1,6 @@
 -- Past the last column there is the zero summand. Assumes nothing.
 use Rattle.std.proofs.Common.{ℕ, ◌≤◌, sym, subst}
-use Rattle.condensers.specs.HandedLemmas.{stands_past}
+use Rattle.condensers.specs.Laws.Handed.{stands_past}
 use Rattle.condensers.proofs.ColumnReads.{as_many}
 use Rattle.condensers.proofs.column_table.ColumnTable.no_summand.Goals as goal
 

@@ -1,6 +1,6 @@
 -- Two summands for each column. Assumes nothing.
 use Rattle.std.proofs.Common.{ℕ, ◌*◌, sym, ap, ◌∙◌}
-use Rattle.condensers.specs.ColumnSummands.{summands_length}
+use Rattle.condensers.specs.Laws.ColumnSummands.{summands_length}
 use Rattle.condensers.proofs.column_table.ColumnTable.part_count.Goals as goal
 
 pub returns : goal.returns

@@ -1,5 +1,5 @@
 -- What lasts while a number is on its way: it is finite, the sizes stay within the count, and whatever comes of it comes of the number that entered.
-use Rattle.condensers.specs.Tables.{taken}
+use Rattle.condensers.specs.Laws.Tables.{taken}
 use Rattle.condensers.specs.Pairing.{sum_of}
 use Rattle.condensers.proofs.Entering.{OnWay}
 use Rattle.condensers.proofs.pairing_table.PairingTable.enter.Given as goal

@@ -5,9 +5,9 @@ use lib.Ieee.{nan}
 use Rattle.std.proofs.lemmas.List.{get_or-map}
 use Rattle.condensers.specs.declared.pairing_table.PairingTable.{PairingTable}
 use Rattle.condensers.specs.Pairing.{summand_of, stands, size, piece_limit}
-use Rattle.condensers.specs.HandedLemmas.{stands-within}
-use Rattle.condensers.specs.Standing.{standing_field}
-use Rattle.condensers.specs.Tables.{stands_at, sum-at, standing_limited}
+use Rattle.condensers.specs.Laws.Handed.{stands-within}
+use Rattle.condensers.specs.Laws.Standing.{standing_field}
+use Rattle.condensers.specs.Laws.Tables.{stands_at, sum-at, standing_limited}
 use Rattle.condensers.proofs.pairing_table.PairingTable.entry_summand.Goals as goal
 
 as_many : (t : PairingTable) → length (map summand_of t.entries) ≡ 4096

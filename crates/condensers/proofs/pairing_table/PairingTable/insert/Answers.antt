@@ -7,7 +7,7 @@ use Rattle.numbers.specs.Products.{piece_units}
 use Rattle.numbers.proofs.Scale.{rank_is}
 use Rattle.numbers.proofs.Window.{size-units}
 use Rattle.condensers.specs.Pairing.{size, piece_limit, total_of}
-use Rattle.condensers.specs.Patterns.{number_is}
+use Rattle.condensers.specs.Laws.Patterns.{number_is}
 use Rattle.condensers.proofs.pairing_table.PairingTable.insert.Goals as goal
 
 -- 2^52 × 2^916 is 2^968

@@ -2,7 +2,7 @@
 use Rattle.std.proofs.Common.{ℕ, ◌≤◌, sym, ◌∙◌, subst}
 use lib.ListN.{length-map}
 use Rattle.condensers.specs.Pairing.{summand_of}
-use Rattle.condensers.specs.HandedLemmas.{stands_past}
+use Rattle.condensers.specs.Laws.Handed.{stands_past}
 use Rattle.condensers.proofs.pairing_table.PairingTable.no_summand.Goals as goal
 
 pub returns : goal.returns

@@ -8,8 +8,8 @@ use Rattle.numbers.specs.Products.{summand_units}
 use Rattle.condensers.specs.Meaning.{sum_units}
 use Rattle.condensers.specs.Handed.{limited}
 use Rattle.condensers.specs.Columns.{columns_from, summands_from, low_summand, high_summand}
-use Rattle.condensers.specs.HandedLemmas.{summand_at-units, limited_in}
-use Rattle.condensers.specs.ColumnsLemmas.{signed_times, signed_plus}
+use Rattle.condensers.specs.Laws.Handed.{summand_at-units, limited_in}
+use Rattle.condensers.specs.Laws.Columns.{signed_times, signed_plus}
 
 -- ---- two summands for each column
 

@@ -11,10 +11,10 @@ use Rattle.numbers.specs.Patterns.{sign_of}
 use Rattle.condensers.specs.Fields.{significand_of, height_of}
 use Rattle.condensers.specs.Handed.{limited}
 use Rattle.condensers.specs.Pairing.{float_units, size, empty, stands, stand_from, total_of, sum_of, piece_limit, summand_of}
-use Rattle.condensers.specs.HandedLemmas.{summand_at-units, limited_in}
-use Rattle.condensers.specs.Patterns.{number_fields, size_fields}
-use Rattle.condensers.specs.Pairs.{significand_lt}
-use Rattle.condensers.specs.Standing.{standing_fits, standing_field, empty_stands, empty-value}
+use Rattle.condensers.specs.Laws.Handed.{summand_at-units, limited_in}
+use Rattle.condensers.specs.Laws.Patterns.{number_fields, size_fields}
+use Rattle.condensers.specs.Laws.Pairs.{significand_lt}
+use Rattle.condensers.specs.Laws.Standing.{standing_fits, standing_field, empty_stands, empty-value}
 
 -- ---- what stands at each place
 

@@ -10,8 +10,8 @@ use Rattle.numbers.specs.Units.{signed, float_value}
 use Rattle.numbers.specs.Patterns.{sign_of, field_of}
 use Rattle.condensers.specs.Fields.{leading, significand_of, height_of}
 use Rattle.condensers.specs.Pairing.{float_units, size, place_of, range_limit}
-use Rattle.condensers.specs.ExactSums.{add_exact}
-use Rattle.condensers.specs.Patterns.{float_value_lem, number_fields, size_fields}
+use Rattle.condensers.specs.Laws.ExactSums.{add_exact}
+use Rattle.condensers.specs.Laws.Patterns.{float_value_lem, number_fields, size_fields}
 
 pub significand_lt : (b : ℕ) → significand_of b < 2 ^ 53
 significand_lt b = go (field_of b) (mod-lt b (lit< tt))

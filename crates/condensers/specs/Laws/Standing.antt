@@ -13,7 +13,7 @@ use Rattle.numbers.proofs.Scale.{units-zero, signed-zero}
 use Rattle.numbers.specs.Patterns.{sign_of, field_of}
 use Rattle.condensers.specs.Fields.{leading, significand_of, height_of}
 use Rattle.condensers.specs.Pairing.{float_units, empty, place_of, stands}
-use Rattle.condensers.specs.Patterns.{float_value_lem, number_fields, number_is, pattern_number, pattern_again}
+use Rattle.condensers.specs.Laws.Patterns.{float_value_lem, number_fields, number_is, pattern_number, pattern_again}
 
 -- ---- the comparison with 0.0
 
