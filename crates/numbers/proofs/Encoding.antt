@@ -1,5 +1,5 @@
 -- The sizes that binary64 patterns stand for: which of them are acceptable, and the factor of each. Assumes nothing.
-use Rattle.std.proofs.Common.{◌≡◌, ℕ, zero, suc, ◌+◌, ◌-◌, ◌*◌, ◌/◌, ◌%◌, ◌^◌, ◌<◌, ◌≤◌, Bool, true, false, cond, ◌&&◌, eqb, ◌⊎◌, ℤ, pos, ◌-ℤ◌, Some, Ok, Err, Option, sym, refl, ap, ◌∙◌, subst, ap₂, inl, inr, ⊎_elim, le_trans, lt_of_lt_of_le, lt_irrefl, mul-le-mul_right, mul_comm, mul-pos, arith, pow_pos, pow_mono, pow-add, shl_lt}
+use Rattle.std.proofs.Common.{◌≡◌, ℕ, zero, suc, ◌+◌, ◌*◌, ◌/◌, ◌%◌, ◌^◌, ◌<◌, ◌≤◌, Bool, true, false, cond, ◌&&◌, eqb, ◌⊎◌, ℤ, pos, ◌-ℤ◌, Some, Ok, Err, Option, sym, refl, ap, ◌∙◌, subst, ap₂, inl, inr, ⊎_elim, le_trans, lt_of_lt_of_le, lt_irrefl, mul-le-mul_right, arith, pow_pos, pow_mono, pow-add, shl_lt}
 use borrow.Author.Differences.{ints}
 use Rattle.std.proofs.lemmas.Bool.{ne_eqb, eq-eqb, eqb-true, eqb-false, and_parts, and_cases, cases_eq, cond-false, cond-true}
 use Rattle.numbers.specs.declared.factor.Factor.{Factor}

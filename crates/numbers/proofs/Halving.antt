@@ -1,14 +1,13 @@
 -- Counts: their values in units, and what halving a size keeps. Assumes nothing.
-use Rattle.std.proofs.Common.{◌≡◌, ℕ, zero, suc, ◌+◌, ◌*◌, ◌/◌, ◌%◌, ◌^◌, ◌<◌, ◌≤◌, Bool, true, false, ◌⊎◌, ℤ, pos, negsuc, ◌*ℤ◌, nat_abs, sym, refl, ap, ◌∙◌, subst, ap₂, inl, inr, le_trans, lt_of_le_of_lt, mul-le-mul_right, mul_assoc, mul_comm, one-mul, mul-one, arith, pow_pos, pow_mono, pow-add}
+use Rattle.std.proofs.Common.{◌≡◌, ℕ, zero, suc, ◌+◌, ◌*◌, ◌%◌, ◌^◌, ◌<◌, ◌≤◌, Bool, false, ◌⊎◌, ℤ, pos, negsuc, ◌*ℤ◌, nat_abs, sym, refl, ap, ◌∙◌, subst, ap₂, inl, inr, le_trans, mul-le-mul_right, mul_comm, one-mul, arith, pow_mono, pow-add}
 use lib.IntN.{zero-*ℤ}
-use lib.Ieee.{unlike}
 use borrow.Author.Differences.{ints}
-use Rattle.numbers.specs.Acceptance.{FactorValue, InWindow, Acceptable}
+use Rattle.numbers.specs.Acceptance.{InWindow, Acceptable}
 use Rattle.numbers.specs.Counts.{is_negative}
 use Rattle.numbers.specs.Products.{one_units}
 use Rattle.numbers.specs.Units.{rank, signed, units}
 use Rattle.numbers.proofs.Scale.{signed_mul, plus_right}
-use Rattle.numbers.proofs.Window.{size-signed, size-units, pow-order, pow_shift, trailing, factor-size, to_window}
+use Rattle.numbers.proofs.Window.{size-units, pow-order, pow_shift, trailing, factor-size, to_window}
 
 -- halvings
 

@@ -1,5 +1,5 @@
 -- Values in units: signs, products, and the power of two of an exponent. Assumes nothing.
-use Rattle.std.proofs.Common.{◌≡◌, ℕ, zero, suc, ◌+◌, ◌-◌, ◌*◌, ◌^◌, ◌<◌, ◌≤◌, Bool, true, false, not, ℤ, pos, negsuc, ◌+ℤ◌, ◌*ℤ◌, neg_ℤ, ◌≤ℤ◌, sym, refl, ap, ◌∙◌, mul_assoc, one-mul, mul-zero, zero-mul, arith, pow-add}
+use Rattle.std.proofs.Common.{◌≡◌, ℕ, zero, suc, ◌+◌, ◌*◌, ◌^◌, Bool, true, false, not, ℤ, pos, negsuc, ◌+ℤ◌, ◌*ℤ◌, neg_ℤ, ◌≤ℤ◌, sym, refl, ap, ◌∙◌, mul_assoc, one-mul, mul-zero, zero-mul, arith, pow-add}
 use native.Mathlib.Nat.{mul-mul-mul_comm}
 use lib.IntN.{neg_ℤ-neg_ℤ}
 use lib.Ieee.{unlike}

@@ -1,5 +1,5 @@
 -- The test for acceptable values decides acceptance, and a kind's answer has the code that the test gives. Assumes nothing.
-use Rattle.std.proofs.Common.{◌≡◌, ℕ, zero, suc, ◌+◌, ◌-◌, ◌*◌, ◌/◌, ◌%◌, ◌^◌, ◌<◌, ◌≤◌, Bool, true, false, cond, ◌&&◌, ◌||◌, eqb, ltb, leb, ◌⊎◌, ℤ, pos, negsuc, ◌-ℤ◌, nat_abs, ◌≤ℤ◌, Some, None, Ok, Err, Decides, Option, Result, sym, refl, ap, ◌∙◌, subst, inl, inr, le_trans, lt_of_lt_of_le, lt_of_le_of_lt, add-zero, lt_irrefl, zero-mul, mul-one, arith, pow_mono, shl_lt, shr_lt}
+use Rattle.std.proofs.Common.{◌≡◌, ℕ, ◌+◌, ◌-◌, ◌*◌, ◌/◌, ◌%◌, ◌^◌, ◌<◌, ◌≤◌, Bool, true, false, ◌&&◌, ◌||◌, eqb, ltb, leb, ◌⊎◌, ℤ, pos, negsuc, ◌-ℤ◌, nat_abs, ◌≤ℤ◌, Some, None, Ok, Err, Option, Result, sym, refl, ap, ◌∙◌, subst, inl, inr, lt_of_lt_of_le, add-zero, zero-mul, mul-one, arith, pow_mono, shl_lt, shr_lt}
 use lib.Ieee.{size}
 use lib.Ieee.Digits.{size-lt, size-le, size_reaches}
 use lib.Pow.{split}
@@ -8,7 +8,7 @@ use Rattle.std.proofs.lemmas.Bool.{and_parts, and_from, or_cases, or_left, or_ri
 use Rattle.numbers.specs.declared.factor.Factor.{Factor}
 use Rattle.numbers.specs.declared.refusal.Reason.{Reason}
 use Rattle.numbers.specs.declared.refusal.Reason.TheVariants.{NotFinite, NotFactor, LengthsDiffer, Full, Shape, CountRange, OutputShort, ShortRange}
-use Rattle.numbers.specs.Acceptance.{FactorValue, InWindow, Acceptable, acceptable, AcceptanceTested, element_code, answer_code, Answers}
+use Rattle.numbers.specs.Acceptance.{FactorValue, Acceptable, acceptable, AcceptanceTested, element_code, answer_code, Answers}
 use Rattle.numbers.specs.Counts.{is_negative}
 use Rattle.numbers.specs.Refusals.{code_of}
 use Rattle.numbers.specs.Units.{rank, signed, units}

@@ -1,11 +1,11 @@
 -- The values of a product and of an opposite follow from their signs, significands and exponents. Assumes nothing.
-use Rattle.std.proofs.Common.{◌≡◌, ℕ, ◌*◌, ◌^◌, ◌<◌, Bool, false, cond, not, eqb, ◌⊎◌, ℤ, pos, negsuc, ◌+ℤ◌, ◌*ℤ◌, neg_ℤ, ◌≤ℤ◌, sym, ap, ◌∙◌, subst, ap₂, inl, inr, arith}
+use Rattle.std.proofs.Common.{◌≡◌, ℕ, ◌*◌, Bool, not, ◌⊎◌, ℤ, pos, ◌+ℤ◌, ◌*ℤ◌, neg_ℤ, sym, ap, ◌∙◌, ap₂, inl, inr, arith}
 use native.Mathlib.Nat.{mul-eq-zero}
 use mathlib.Core.Logic.Or
 use lib.IntN.{*ℤ-zero, zero-*ℤ, ℤ_set}
 use lib.Ieee.{unlike}
 use borrow.Author.Differences.{ints}
-use Rattle.std.proofs.lemmas.Bool.{cases_eq, eq-eqb, ne_eqb, cond-true, cond-false}
+use Rattle.std.proofs.lemmas.Bool.{cases_eq, ne_eqb, cond-false}
 use Rattle.numbers.specs.declared.factor.Factor.{Factor}
 use Rattle.numbers.specs.declared.piece.Piece.{Piece}
 use Rattle.numbers.specs.Products.{IsProduct, IsOpposite, factor_units, piece_units, one_units}

@@ -1,10 +1,9 @@
 -- Which sizes are a factor's: how many bits a factor's value can have, and where the window ends. Assumes nothing.
-use Rattle.std.proofs.Common.{◌≡◌, ℕ, zero, suc, ◌+◌, ◌-◌, ◌*◌, ◌/◌, ◌%◌, ◌^◌, ◌<◌, ◌≤◌, Bool, true, false, ◌⊎◌, ℤ, pos, negsuc, nat_abs, ◌≤ℤ◌, sym, refl, ap, ◌∙◌, subst, inl, inr, ⊎_elim, le_trans, le_of_eq, lt_of_lt_of_le, lt_of_le_of_lt, lt_irrefl, mul-le-mul_right, mul_assoc, mul_comm, add_comm, mul-lt-mul_of_pos_right, mul-pos, arith, pow_pos, pow_mono, pow-add, shl_lt}
+use Rattle.std.proofs.Common.{◌≡◌, ℕ, zero, suc, ◌+◌, ◌-◌, ◌*◌, ◌%◌, ◌^◌, ◌<◌, ◌≤◌, Bool, true, false, ◌⊎◌, ℤ, pos, negsuc, nat_abs, ◌≤ℤ◌, sym, refl, ap, ◌∙◌, subst, inl, inr, le_trans, lt_of_lt_of_le, lt_irrefl, mul-le-mul_right, mul_assoc, arith, pow_pos, pow_mono, pow-add, shl_lt}
 use native.Mathlib.Nat.{mul-mod_left, eq_of_mul-eq-mul_right}
-use lib.Pow.{pow-lt}
 use borrow.Author.Differences.{ints}
 use Rattle.std.proofs.lemmas.Bool.{cases_lt}
-use Rattle.numbers.specs.Acceptance.{FactorValue, InWindow, Acceptable}
+use Rattle.numbers.specs.Acceptance.{FactorValue, InWindow}
 use Rattle.numbers.specs.Products.{factor_units}
 use Rattle.numbers.specs.declared.factor.Factor.{Factor}
 use Rattle.numbers.specs.Units.{rank, signed, units}

@@ -1,5 +1,5 @@
 -- The piece of two factors, and the piece of a withdrawal.
-use Rattle.std.specs.Prelude.{◌≡◌, ℕ, ◌*◌, Bool, true, false, cond, not, ℤ, pos, ◌+ℤ◌, ◌==◌}
+use Rattle.std.specs.Prelude.{◌≡◌, ◌*◌, false, cond, not, ℤ, pos, ◌+ℤ◌, ◌==◌}
 use Rattle.std.specs.Float.Ieee.{unlike}
 use Rattle.numbers.specs.declared.factor.Factor.{Factor}
 use Rattle.numbers.specs.declared.piece.Piece.{Piece}

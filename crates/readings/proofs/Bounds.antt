@@ -1,5 +1,5 @@
 -- The limits of summands and sums fit the limbs. Assumes nothing.
-use Rattle.std.proofs.Common.{◌≡◌, ℕ, zero, suc, ◌+◌, ◌-◌, ◌*◌, ◌^◌, ◌<◌, ◌≤◌, ℤ, pos, ◌+ℤ◌, ◌-ℤ◌, neg_ℤ, sym, refl, ap, ◌∙◌, subst, le_trans, le_of_eq, lt_of_le_of_lt, add-le-add, mul-le-mul_right, mul_assoc, suc-mul, one-mul, zero-mul, arith, lit<, lit≤}
+use Rattle.std.proofs.Common.{◌≡◌, ℕ, ◌+◌, ◌*◌, ◌^◌, ◌<◌, ◌≤◌, pos, ◌+ℤ◌, ◌-ℤ◌, neg_ℤ, sym, ap, ◌∙◌, subst, le_trans, le_of_eq, lt_of_le_of_lt, add-le-add, mul-le-mul_right, suc-mul, arith, lit<}
 use borrow.Author.Differences.{ints}
 use Rattle.numbers.specs.Units.{rank}
 use Rattle.readings.specs.Limbs.{summand_limit}

@@ -1,17 +1,17 @@
 -- The rounding that can be computed is the rounding that IEEE 754 describes, in every direction, for each total that is not above the format's largest number. Assumes nothing.
-use Rattle.std.proofs.Common.{◌≡◌, ℕ, zero, suc, ◌+◌, ◌-◌, ◌*◌, ◌^◌, ◌<◌, ◌≤◌, Bool, true, false, cond, leb, ◌⊎◌, ℤ, pos, negsuc, ◌-ℤ◌, neg_ℤ, nat_abs, ◌≤ℤ◌, sym, refl, ap, ◌∙◌, subst, inl, inr, le_trans, le_of_eq, le_refl, lt_of_le_of_lt, add_assoc, mul_assoc, mul_comm, add-mul, mul-pos, arith, lit≤, pow_pos}
+use Rattle.std.proofs.Common.{◌≡◌, ℕ, zero, suc, ◌+◌, ◌-◌, ◌*◌, ◌^◌, ◌<◌, ◌≤◌, Bool, true, false, cond, leb, ◌⊎◌, ℤ, pos, negsuc, neg_ℤ, nat_abs, ◌≤ℤ◌, sym, refl, ap, ◌∙◌, subst, inl, inr, le_trans, le_of_eq, add-mul, mul-pos, arith, lit≤}
 use borrow.Author.Differences.{ints}
 use lib.Ieee.{Format, binary32, binary64, prec, hid, ones, top}
 use Rattle.numbers.specs.Units.{signed}
 use Rattle.readings.specs.declared.forms.Direction.{Direction}
 use Rattle.readings.specs.declared.forms.Direction.TheVariants.{Nearest, TowardZero, Up, Down}
 use Rattle.readings.specs.Formats.{Encodes, lowest, largest}
-use Rattle.readings.specs.Rounding.{LeastAbove, GreatestBelow, distance, NoneNearer, Preferred, TieTaken, Directed, negative, Rounds}
+use Rattle.readings.specs.Rounding.{LeastAbove, GreatestBelow, distance, NoneNearer, Preferred, TieTaken, Directed, Rounds}
 use Rattle.readings.specs.Rounded.{mode_of, size_pattern, rounded}
 use Rattle.readings.specs.declared.rounding.Mode.{Mode}
 use Rattle.readings.proofs.Grid.{magnitude, magnitude_at}
-use Rattle.readings.proofs.Patterns.{grid_size, hid_pos, places, places_lt, place-encodes, Found, found, sign_of}
-use Rattle.readings.proofs.Sizes.{CutTo, RaisedTo, NearTo, TieTo, Taken, Chosen, chosen, gap, grid_zero}
+use Rattle.readings.proofs.Patterns.{grid_size, hid_pos, places, places_lt, place-encodes, found, sign_of}
+use Rattle.readings.proofs.Sizes.{CutTo, RaisedTo, NearTo, TieTo, Taken, chosen, gap, grid_zero}
 
 -- ---- the numbers of the format that are not below and not above a total, by sizes
 

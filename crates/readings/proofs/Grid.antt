@@ -1,5 +1,5 @@
 -- The grid of a format: the sizes of its patterns, in units, grow with the pattern. Assumes nothing.
-use Rattle.std.proofs.Common.{◌≡◌, ℕ, zero, suc, ◌+◌, ◌-◌, ◌*◌, ◌/◌, ◌%◌, ◌^◌, ◌<◌, ◌≤◌, ◌⊎◌, sym, refl, ap, ◌∙◌, subst, inl, inr, zero-le, le_trans, le_of_eq, le_refl, lt_of_lt_of_le, lt_of_le_of_lt, add-zero, le_of_lt, add_assoc, lt_irrefl, add-suc, mul-le-mul_right, mod-lt, mul_assoc, lt-suc_self, suc-mul, mul_comm, add-sub_of_le, eq-or-lt_of_le, mul-le-mul_left, mul-lt-mul_of_pos_right, div-add-mod', zero-add, zero-mul, mul-one, mul_left_comm, arith, pow_pos, pow-add}
+use Rattle.std.proofs.Common.{◌≡◌, ℕ, zero, suc, ◌+◌, ◌-◌, ◌*◌, ◌/◌, ◌%◌, ◌^◌, ◌<◌, ◌≤◌, ◌⊎◌, sym, refl, ap, ◌∙◌, subst, inl, inr, le_trans, le_of_eq, lt_of_lt_of_le, lt_of_le_of_lt, add-zero, le_of_lt, add_assoc, lt_irrefl, add-suc, mod-lt, mul_assoc, lt-suc_self, suc-mul, add-sub_of_le, eq-or-lt_of_le, mul-lt-mul_of_pos_right, div-add-mod', zero-add, zero-mul, mul-one, mul_left_comm, arith, pow_pos}
 use native.Mathlib.Nat.{pow-succ', le-suc}
 use lib.Arith.{digits_div, digits_mod}
 use Rattle.readings.proofs.Cases.{lt_or_ge}

@@ -1,5 +1,5 @@
 -- The digits that a format keeps of a size, found from the number of its bits, and that the pattern fits 64 bits. Assumes nothing.
-use Rattle.std.proofs.Common.{◌≡◌, ℕ, zero, suc, ◌+◌, ◌-◌, ◌*◌, ◌/◌, ◌%◌, ◌^◌, ◌<◌, ◌≤◌, List, length, sym, refl, ap, ◌∙◌, subst, le_trans, le_of_eq, lt_of_lt_of_le, mul-le-mul_right, mod-eq_of_lt, mul-le-mul_left, arith, lit<, lit≤, pow_mono, shr-shr}
+use Rattle.std.proofs.Common.{◌≡◌, ℕ, ◌+◌, ◌-◌, ◌*◌, ◌/◌, ◌%◌, ◌^◌, ◌<◌, ◌≤◌, List, length, sym, ap, ◌∙◌, subst, le_trans, le_of_eq, lt_of_lt_of_le, mul-le-mul_right, mod-eq_of_lt, mul-le-mul_left, arith, lit≤, pow_mono, shr-shr}
 use lib.Ieee.{Format, binary32, binary64, prec, hid, size}
 use lib.Ieee.Digits.{size-le}
 use lib.Ieee.Fits.{kept-lt}

@@ -1,19 +1,14 @@
 -- Each line of the table of worked cases, by computation. Assumes nothing.
-use Rattle.std.proofs.Common.{◌≡◌, ℕ, zero, suc, ◌+◌, ◌*◌, ◌^◌, ◌<◌, ◌≤◌, true, false, cond, eqb, leb, ◌⊎◌, List, [], ◌∷◌, ℤ, pos, negsuc, ◌+ℤ◌, ◌*ℤ◌, neg_ℤ, nat_abs, sym, refl, ap, ◌∙◌, subst, inl, inr, le_trans, mul-le-mul_right, mul-le-mul_left, mul-one, arith, lit≤, pow_mono}
+use Rattle.std.proofs.Common.{◌≡◌, ℕ, zero, suc, ◌+◌, ◌*◌, ◌^◌, ◌<◌, ◌≤◌, cond, eqb, ◌⊎◌, List, [], ◌∷◌, ℤ, pos, negsuc, ◌+ℤ◌, neg_ℤ, nat_abs, refl, ap, ◌∙◌, subst, inl, inr, mul-le-mul_left, arith, lit≤, pow_mono}
 use lib.Ieee.{binary64, size, span, climb}
-use Rattle.numbers.specs.declared.factor.Factor.{Factor}
-use Rattle.numbers.specs.declared.piece.Piece.{Piece}
-use Rattle.numbers.specs.Acceptance.{acceptable, element_code}
-use Rattle.numbers.specs.Counts.{CountFactor, count_value}
-use Rattle.numbers.specs.Patterns.{pattern_value}
-use Rattle.numbers.specs.Products.{one_units, IsProduct}
+use Rattle.numbers.specs.Acceptance.{acceptable}
 use Rattle.numbers.specs.Units.{rank, units}
 use Rattle.readings.specs.declared.forms.Direction.{Direction}
-use Rattle.readings.specs.declared.forms.Direction.TheVariants.{Nearest, TowardZero, Up, Down}
+use Rattle.readings.specs.declared.forms.Direction.TheVariants.{Nearest, Up, Down}
 use Rattle.readings.specs.Formats.{largest}
 use Rattle.readings.specs.Rounding.{Rounds}
 use Rattle.readings.specs.Rounded.{dropped, tie_carry, size_pattern, rounded}
-use Rattle.readings.specs.MarkedCases.{Element, pattern, count, value_of, Product, take, withdraw, SumOf, Line, code, factor, square, reading, Yields, halfway, squares, MarkedCases}
+use Rattle.readings.specs.MarkedCases.{pattern, count, Product, take, withdraw, SumOf, factor, square, Yields, halfway, squares, MarkedCases}
 use Rattle.readings.proofs.Directions.{rounded-rounds}
 
 -- a rounding by computation

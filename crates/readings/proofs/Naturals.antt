@@ -1,10 +1,10 @@
 -- Numbers written in limbs of 64 bits: one limb changed, the lowest limbs, a limb read back. Assumes nothing.
-use Rattle.std.proofs.Common.{◌≡◌, ℕ, zero, suc, ◌+◌, ◌-◌, ◌*◌, ◌/◌, ◌%◌, ◌^◌, ◌<◌, ◌≤◌, ◌≢◌, ◌⊎◌, List, [], ◌∷◌, ◌++◌, length, get_or, take, drop, set, sym, refl, ap, ◌∙◌, subst, inl, inr, zero-le, le_trans, le_of_eq, le_refl, lt_of_lt_of_le, le_of_suc-le-suc, not-suc-le-zero, add-zero, add-suc, mul-le-mul_right, zero-lt-suc, mul_assoc, suc-mul, mul_comm, add-mul, add-sub_of_le, eq-zero-or-pos, add_comm, le_antisymm, mul-pos, lt_of_not-le, mul-zero, zero-add, zero-mul, not-le_of_lt, div-one, mul_left_comm, le-add_left, add-one, arith, pow_pos, pow_mono, pow-add, shl_exact, shr-shr}
-use native.Mathlib.Nat.{zero-div, zero-mod, mod-one, mul-add-mod_self_left}
+use Rattle.std.proofs.Common.{◌≡◌, ℕ, zero, suc, ◌+◌, ◌-◌, ◌*◌, ◌/◌, ◌%◌, ◌^◌, ◌<◌, ◌≤◌, ◌≢◌, ◌⊎◌, List, [], ◌∷◌, length, get_or, take, drop, set, sym, refl, ap, ◌∙◌, subst, inl, inr, le_trans, le_of_eq, le_refl, le_of_suc-le-suc, not-suc-le-zero, add-zero, add-suc, mul-le-mul_right, zero-lt-suc, mul_assoc, suc-mul, mul_comm, add-mul, add-sub_of_le, eq-zero-or-pos, add_comm, le_antisymm, mul-pos, lt_of_not-le, zero-mul, not-le_of_lt, mul_left_comm, le-add_left, add-one, arith, pow_pos, pow_mono, pow-add, shl_exact, shr-shr}
+use native.Mathlib.Nat.{zero-mod, mul-add-mod_self_left}
 use lib.Arith.{digits_div, digits_mod, digits_lt}
 use lib.Pow.{field, mod-pow-add, mod-mod-pow}
 use lib.Ieee.{size}
-use lib.Ieee.Digits.{size-lt, size-le, size_reaches}
+use lib.Ieee.Digits.{size-lt, size-le}
 use Rattle.std.proofs.lemmas.List.{take_all, take-set, length-set, get_or-set_same}
 use Rattle.readings.specs.Limbs.{natural}
 

@@ -1,10 +1,10 @@
 -- The value of a pattern by its sign and its place in the grid, from the toolchain's own definition of the format. Assumes nothing.
-use Rattle.std.proofs.Common.{◌≡◌, ℕ, zero, suc, ◌+◌, ◌-◌, ◌*◌, ◌/◌, ◌%◌, ◌^◌, ◌<◌, ◌≤◌, Bool, true, false, cond, not, T, eqb, leb, ◌⊎◌, ℤ, pos, negsuc, neg_ℤ, Some, None, Option, sym, refl, ap, ◌∙◌, subst, inl, inr, le_trans, le_of_eq, lt_of_lt_of_le, le_of_suc-le-suc, le-add_right, lt_of_le_of_lt, add-zero, le_of_lt, add_assoc, lt_irrefl, mul-le-mul_right, mod-lt, mod-eq_of_lt, zero-lt-suc, mul_assoc, mul_comm, div-lt_iff_lt-mul, add-sub_of_le, eq-zero-or-pos, le_antisymm, mul-le-mul_left, mul-pos, one-mul, div-add-mod', le-div_iff_mul-le, zero-add, zero-mul, mul-one, mul_right_comm, arith, lit<, lit≤, le→leb, eqb→eq, leb→le, pow_pos, pow-add}
+use Rattle.std.proofs.Common.{◌≡◌, ℕ, zero, suc, ◌+◌, ◌-◌, ◌*◌, ◌/◌, ◌%◌, ◌^◌, ◌<◌, ◌≤◌, Bool, true, false, cond, not, T, eqb, leb, ◌⊎◌, ℤ, pos, negsuc, Some, None, Option, sym, refl, ap, ◌∙◌, subst, inl, inr, le_trans, le_of_eq, lt_of_lt_of_le, le_of_suc-le-suc, le-add_right, mul-le-mul_right, mod-eq_of_lt, zero-lt-suc, mul_assoc, mul_comm, div-lt_iff_lt-mul, add-sub_of_le, le_antisymm, mul-pos, le-div_iff_mul-le, zero-add, zero-mul, mul-one, arith, lit≤, le→leb, eqb→eq, leb→le, pow_pos, pow-add}
 use native.Mathlib.Nat.{add-mod_left, mod-mod_of_dvd, dvd-mul_right, eq_of_mul-eq-mul_right}
 use lib.Dec.{nleb→lt}
-use lib.Arith.{lt→nleb, digits_div, digits_mod, digits_lt}
+use lib.Arith.{lt→nleb}
 use lib.Count.{count_trailing_zeros}
-use lib.Ieee.{Float, nan, inf, fin, Format, binary32, binary64, prec, low, emax, hid, ones, top, up, down, minus, odd, of_fields, of_bits}
+use lib.Ieee.{nan, inf, Format, binary32, binary64, prec, low, emax, hid, ones, top, down, minus, odd, of_fields, of_bits}
 use lib.Ieee.Digits.{odd_val, minus_val}
 use lib.Ieee.Fits.{down_pos, eq→eqb}
 use lib.Ieee.Bits.{is_true, is_false, cond_no}

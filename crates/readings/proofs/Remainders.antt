@@ -1,5 +1,5 @@
 -- What is left below a bit, by the bit under it and whether anything lies below that one. Assumes nothing.
-use Rattle.std.proofs.Common.{◌≡◌, ℕ, zero, suc, ◌+◌, ◌-◌, ◌*◌, ◌/◌, ◌%◌, ◌^◌, ◌<◌, ◌≤◌, Bool, true, false, not, T, ltb, ◌≢◌, ◌⊎◌, sym, refl, ap, ◌∙◌, subst, inl, inr, le_trans, le_of_eq, lt_of_lt_of_le, mod-lt, zero-lt-suc, le_antisymm, one-mul, le-div_iff_mul-le, zero-mul, mul-one, arith, ltb→lt, nltb→le, pow_pos, pow_mono, pow-add, shr_lt}
+use Rattle.std.proofs.Common.{◌≡◌, ℕ, zero, suc, ◌+◌, ◌-◌, ◌*◌, ◌/◌, ◌%◌, ◌^◌, ◌<◌, ◌≤◌, Bool, true, false, not, T, ltb, ◌≢◌, sym, refl, ap, ◌∙◌, subst, inl, inr, le_trans, le_of_eq, lt_of_lt_of_le, mod-lt, le_antisymm, one-mul, le-div_iff_mul-le, zero-mul, arith, ltb→lt, nltb→le, pow_pos, pow_mono, pow-add, shr_lt}
 use Prim.Native.Nat.{compare, Ordering}
 use native.Mathlib.Nat.{pow-succ'}
 use native.Mathlib.Omega.{compare-lt, compare-eq, compare-gt}

@@ -1,24 +1,23 @@
 -- The laws of rounding, proved once for all directions and both formats. Assumes nothing.
-use Rattle.std.proofs.Common.{◌≡◌, ℕ, zero, suc, ◌+◌, ◌*◌, ◌^◌, ◌<◌, ◌≤◌, Bool, true, false, cond, leb, ◌⊎◌, ℤ, pos, negsuc, ◌-ℤ◌, neg_ℤ, nat_abs, ◌≤ℤ◌, ◌<ℤ◌, Some, Ok, Err, Option, Result, sym, refl, ap, ◌∙◌, subst, inl, inr, le_trans, le_of_eq, lt_of_lt_of_le, lt_irrefl, mul-le-mul_right, le_antisymm, one-mul, arith, lit≤}
+use Rattle.std.proofs.Common.{◌≡◌, ℕ, suc, ◌+◌, ◌*◌, ◌^◌, ◌<◌, ◌≤◌, Bool, true, false, cond, leb, ℤ, pos, negsuc, nat_abs, ◌≤ℤ◌, ◌<ℤ◌, Some, Ok, Err, Option, Result, sym, refl, ap, ◌∙◌, subst, inl, inr, le_trans, le_of_eq, lt_of_lt_of_le, lt_irrefl, mul-le-mul_right, le_antisymm, one-mul, arith, lit≤}
 use borrow.Author.Differences.{ints}
 use lib.Arith.{digits_lt}
 use lib.Signed.{clash_ℤ}
-use lib.Ieee.{Format, binary32, binary64, hid, ones, top}
+use lib.Ieee.{Format, binary32, binary64, hid, top}
 use Rattle.std.proofs.lemmas.Int.{by_lt_z}
 use Rattle.numbers.specs.Units.{signed}
 use Rattle.readings.specs.declared.forms.Direction.{Direction}
 use Rattle.readings.specs.declared.forms.Direction.TheVariants.{Nearest, TowardZero, Up, Down}
 use Rattle.numbers.specs.declared.refusal.Refusal.{Refusal}
-use Rattle.readings.specs.declared.forms.Form.{Form}
 use Rattle.readings.specs.declared.forms.Width.{Width}
 use Rattle.readings.specs.declared.forms.Width.TheVariants.{Long, Short}
-use Rattle.readings.specs.Formats.{Encodes, encoded_value, lowest}
+use Rattle.readings.specs.Formats.{Encodes, lowest}
 use Rattle.readings.specs.Readings.{LongReading, ShortReading, TooLarge, short_limit, ReadsIn}
-use Rattle.readings.specs.Rounding.{LeastAbove, GreatestBelow, distance, NoneNearer, Preferred, TieTaken, Directed, negative, Rounds}
+use Rattle.readings.specs.Rounding.{LeastAbove, GreatestBelow, distance, Preferred, Directed, negative, Rounds}
 use Rattle.readings.specs.Laws.{SubnormalValue, NormalValue, AtMostOne, KeepsOrder, Exact, UpLaw, DownLaw, TowardZeroLaw, NearestLaw, TieLaw, ZeroLaw, SameAnswer, OneAnswer, RoundingLaws}
 use Rattle.readings.proofs.Cases.{lt_or_ge}
-use Rattle.readings.proofs.Grid.{magnitude, magnitude_low, magnitude_field}
-use Rattle.readings.proofs.Patterns.{grid_size, places, places_lt, place-encodes, place-value, Found, found, sign_of}
+use Rattle.readings.proofs.Grid.{magnitude_low, magnitude_field}
+use Rattle.readings.proofs.Patterns.{grid_size, places_lt, place-encodes, place-value, found, sign_of}
 use Rattle.readings.proofs.Sizes.{grid_lt, grid_zero}
 use Rattle.readings.proofs.Directions.{places_pos, two_ones, rounded-rounds}
 

@@ -1,20 +1,20 @@
 -- Where a size lies in the grid of a format, and which of its two neighbours each way of rounding a size takes. Assumes nothing.
-use Rattle.std.proofs.Common.{◌≡◌, ℕ, zero, suc, ◌+◌, ◌-◌, ◌*◌, ◌/◌, ◌%◌, ◌^◌, ◌<◌, ◌≤◌, ◌⊎◌, sym, refl, ap, ◌∙◌, subst, inl, inr, le_trans, le_of_eq, lt_of_lt_of_le, le_of_suc-le-suc, lt_of_le_of_lt, add-zero, le_of_lt, lt_irrefl, add-suc, mul-le-mul_right, mod-lt, zero-lt-suc, mul_assoc, suc-mul, mul_comm, eq-zero-or-pos, mul-lt-mul_of_pos_right, div-add-mod', le-div_iff_mul-le, zero-mul, mul_right_comm, arith, pow_pos, pow-add, shr-shr}
+use Rattle.std.proofs.Common.{◌≡◌, ℕ, zero, suc, ◌+◌, ◌-◌, ◌*◌, ◌/◌, ◌%◌, ◌^◌, ◌<◌, ◌≤◌, ◌⊎◌, sym, refl, ap, ◌∙◌, subst, inl, inr, le_trans, le_of_eq, lt_of_lt_of_le, le_of_lt, lt_irrefl, add-suc, mul-le-mul_right, mod-lt, zero-lt-suc, mul_assoc, suc-mul, mul_comm, eq-zero-or-pos, mul-lt-mul_of_pos_right, div-add-mod', le-div_iff_mul-le, zero-mul, arith, pow_pos, pow-add, shr-shr}
 use Prim.Native.Nat.{compare, Ordering}
 use native.Mathlib.Nat.{pow-succ'}
 use native.Mathlib.Omega.{compare-lt, compare-eq, compare-gt}
-use lib.Ieee.{Format, prec, hid, ones, size}
-use lib.Ieee.Digits.{size-lt, size_reaches}
+use lib.Ieee.{Format, prec, hid, size}
+use lib.Ieee.Digits.{size_reaches}
 use lib.Ieee.Fits.{kept-lt, two}
-use Rattle.readings.specs.Formats.{lowest, largest}
+use Rattle.readings.specs.Formats.{lowest}
 use Rattle.readings.specs.Rounded.{dropped, tie_carry, by_half, remainder_of, carry, size_pattern}
 use Rattle.readings.specs.declared.rounding.Mode.{Mode}
 use Rattle.readings.specs.declared.rounding.Mode.TheVariants.{Cut, Raise, Near}
 use Rattle.readings.specs.declared.rounding.Remainder.{Remainder}
 use Rattle.readings.specs.declared.rounding.Remainder.TheVariants.{Nothing, BelowHalf, Half, AboveHalf}
 use Rattle.readings.proofs.Cases.{lt_or_ge}
-use Rattle.readings.proofs.Grid.{magnitude, magnitude_at, magnitude_lt, magnitude_le, magnitude_low}
-use Rattle.readings.proofs.Patterns.{grid_size, hid_pos, places}
+use Rattle.readings.proofs.Grid.{magnitude_at, magnitude_lt, magnitude_le, magnitude_low}
+use Rattle.readings.proofs.Patterns.{grid_size, hid_pos}
 
 -- ---- the grid in units
 

@@ -1,12 +1,11 @@
 -- A binary64 pattern taken apart, and the limits of sums and short readings within the formats. Assumes nothing.
-use Rattle.std.proofs.Common.{◌≡◌, ℕ, zero, suc, ◌+◌, ◌-◌, ◌*◌, ◌/◌, ◌%◌, ◌^◌, ◌<◌, ◌≤◌, Bool, true, false, cond, not, ltb, leb, ◌⊎◌, ℤ, pos, negsuc, neg_ℤ, nat_abs, sym, refl, ap, ◌∙◌, subst, inl, inr, le_trans, le_of_eq, lt_of_lt_of_le, lt_of_le_of_lt, le_of_lt, lt_irrefl, eq-or-lt_of_le, zero-add, mul-one, arith, lit<, lit≤, le→leb, lt→ltb}
-use borrow.Author.Differences.{ints}
+use Rattle.std.proofs.Common.{◌≡◌, ℕ, zero, suc, ◌+◌, ◌*◌, ◌/◌, ◌%◌, ◌^◌, ◌<◌, ◌≤◌, Bool, true, false, cond, ltb, leb, ◌⊎◌, ℤ, pos, nat_abs, sym, refl, ap, ◌∙◌, subst, inl, inr, le_trans, le_of_eq, lt_of_le_of_lt, le_of_lt, lt_irrefl, eq-or-lt_of_le, mul-one, arith, lit<, lit≤, le→leb, lt→ltb}
 use lib.Arith.{le→nltb, lt→nleb}
-use lib.Ieee.{Format, binary32, binary64, top, hid}
+use lib.Ieee.{Format, binary32, binary64, top}
 use lib.Ieee.Bits.{is_true, is_false}
 use Rattle.numbers.specs.Units.{signed, rank}
 use Rattle.readings.specs.declared.forms.Direction.{Direction}
-use Rattle.readings.specs.Formats.{Encodes, largest, lowest}
+use Rattle.readings.specs.Formats.{Encodes, largest}
 use Rattle.readings.specs.Readings.{short_limit}
 use Rattle.readings.specs.Rounded.{mode_of, size_pattern, rounded}
 use Rattle.readings.specs.Rounding.{negative}
@@ -14,7 +13,7 @@ use Rattle.readings.specs.declared.rounding.Mode.{Mode}
 use Rattle.readings.proofs.Bounds.{sum_limit}
 use Rattle.readings.proofs.Cases.{lt_or_ge}
 use Rattle.readings.proofs.Grid.{magnitude, magnitude_of}
-use Rattle.readings.proofs.Patterns.{grid_size, places, Split, split, places_lt, mod_of, place-encodes, Found, found}
+use Rattle.readings.proofs.Patterns.{grid_size, split, places_lt, mod_of, place-encodes, found}
 use Rattle.readings.proofs.Sizes.{grid_le, grid_lt, grid_zero}
 use Rattle.readings.proofs.Directions.{size_of, place_finite}
 use Rattle.readings.proofs.Rules.{one_value, one-pattern}

@@ -1,7 +1,7 @@
 -- The finite numbers of IEEE 754's binary32 and binary64, as whole numbers of the unit, 2 ^ -1074.
 use Rattle.std.specs.Prelude.{◌≡◌, ℕ, ◌-◌, ◌*◌, ◌^◌, ◌<◌, ℤ, Some, Option, from_bits}
 use Rattle.std.specs.Float.{Format, binary32, binary64}
-use Rattle.std.specs.Float.Ieee.{prec, low, top, ones, hid}
+use Rattle.std.specs.Float.Ieee.{prec, low, top, ones}
 use Rattle.numbers.specs.Units.{float_value}
 use Rattle.readings.specs.declared.forms.Width.{Width}
 use Rattle.readings.specs.declared.forms.Width.TheVariants.{Long, Short}

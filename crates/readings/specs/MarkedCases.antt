@@ -1,6 +1,5 @@
 -- A table of worked cases, and what it is for the definitions to yield each line of it.
 use Rattle.std.specs.Prelude.{◌≡◌, ℕ, Bool, true, false, cond, List, [], ◌∷◌, ℤ, pos, negsuc, ◌+ℤ◌, ◌*ℤ◌, neg_ℤ, Some, None, Option}
-use Rattle.std.specs.Int.Signed.{quot_z}
 use Rattle.std.specs.Float.{binary64}
 use Rattle.numbers.specs.declared.factor.Factor.{Factor}
 use Rattle.numbers.specs.declared.piece.Piece.{Piece}
@@ -9,7 +8,7 @@ use Rattle.numbers.specs.Counts.{count_value, CountFactor}
 use Rattle.numbers.specs.Patterns.{pattern_value}
 use Rattle.numbers.specs.Products.{one_units, IsProduct}
 use Rattle.readings.specs.declared.forms.Direction.{Direction}
-use Rattle.readings.specs.declared.forms.Direction.TheVariants.{Nearest, TowardZero, Up, Down}
+use Rattle.readings.specs.declared.forms.Direction.TheVariants.{Nearest, Up, Down}
 use Rattle.readings.specs.Rounding.{Rounds}
 
 -- an element of either kind

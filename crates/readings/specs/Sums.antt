@@ -1,5 +1,5 @@
 -- What an exact sum stands for, and what adding a summand to it does.
-use Rattle.std.specs.Prelude.{◌≡◌, ℕ, ◌+◌, ◌<◌, ◌≤◌, Bool, true, false, ℤ, pos, ◌+ℤ◌, ◌-ℤ◌}
+use Rattle.std.specs.Prelude.{◌≡◌, ◌+◌, ◌<◌, ◌≤◌, Bool, true, false, ℤ, pos, ◌+ℤ◌, ◌-ℤ◌}
 use Rattle.numbers.specs.declared.piece.Summand.{Summand}
 use Rattle.numbers.specs.Products.{summand_units}
 use Rattle.numbers.specs.Units.{signed}

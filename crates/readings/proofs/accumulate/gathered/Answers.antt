@@ -1,6 +1,5 @@
 -- Each summand goes from what is still to come to what was added; a zero one changes nothing, and no condenser hands out too many.
-use Rattle.std.proofs.Common.{◌≡◌, ℕ, ◌+◌, ◌*◌, ◌^◌, ◌<◌, ◌≤◌, Bool, true, false, List, [], ◌∷◌, length, get_or, drop, ℤ, pos, ◌+ℤ◌, neg_ℤ, sym, refl, ap, ◌∙◌, subst, zero-le, zero-mul, arith}
-use borrow.Author.Differences.{ints}
+use Rattle.std.proofs.Common.{◌≡◌, ℕ, ◌+◌, ◌*◌, ◌^◌, ◌<◌, ◌≤◌, Bool, true, false, List, length, drop, ℤ, pos, ◌+ℤ◌, sym, refl, ap, ◌∙◌, subst, zero-mul, arith}
 use lib.IntN.{+ℤ_assoc, +ℤ_idl, +ℤ_idr}
 use Rattle.std.proofs.lemmas.List.{drop_more, drop_all}
 use Rattle.numbers.specs.declared.piece.Summand.{Summand}

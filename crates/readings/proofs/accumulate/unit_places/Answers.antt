@@ -1,5 +1,5 @@
 -- The exponent is within its limits, so nothing is lost on the way to the number of places.
-use Rattle.std.proofs.Common.{◌≡◌, ℕ, ◌≤◌, ℤ, pos, negsuc, ◌+ℤ◌, nat_abs, ◌≤ℤ◌, refl, arith, w32, to_z, of_z}
+use Rattle.std.proofs.Common.{◌≡◌, ◌≤◌, ℤ, pos, negsuc, ◌+ℤ◌, nat_abs, ◌≤ℤ◌, arith, w32, to_z, of_z}
 use borrow.Author.Differences.{ints}
 use Rattle.numbers.specs.Units.{rank}
 use Rattle.readings.proofs.accumulate.unit_places.Goals as goal

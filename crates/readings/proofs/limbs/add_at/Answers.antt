@@ -1,5 +1,5 @@
 -- One turn writes the lower 64 bits of the limb and the carry, and carries the rest.
-use Rattle.std.proofs.Common.{◌+◌, ◌*◌, ◌/◌, ◌^◌, ◌<◌, get_or, arith}
+use Rattle.std.proofs.Common.{◌+◌, ◌*◌, ◌^◌, arith}
 use Rattle.readings.proofs.Naturals.{add_turn}
 use Rattle.readings.specs.Limbs.{natural}
 use Rattle.readings.proofs.limbs.add_at.Goals as goal

@@ -1,12 +1,12 @@
 -- Zeros up to the limb of the bit leave that limb's low bits to decide.
-use Rattle.std.proofs.Common.{◌≡◌, ℕ, zero, suc, ◌+◌, ◌-◌, ◌*◌, ◌/◌, ◌%◌, ◌^◌, ◌<◌, ◌≤◌, min, Bool, true, false, not, T, eqb, ltb, ◌≢◌, ◌⊎◌, List, length, get_or, take, sym, refl, ap, ◌∙◌, subst, inl, inr, add-zero, zero-lt-suc, eq-zero-or-pos, mul-pos, zero-mul, add-one, arith, lt→ltb, pow_pos}
+use Rattle.std.proofs.Common.{◌≡◌, ℕ, zero, suc, ◌+◌, ◌*◌, ◌/◌, ◌%◌, ◌^◌, ◌<◌, ◌≤◌, min, not, eqb, ltb, List, length, get_or, take, sym, refl, ap, ◌∙◌, inl, inr, zero-lt-suc, mul-pos, zero-mul, add-one, arith, lt→ltb, pow_pos}
 use lib.Dec.{eqb-suc-zero}
 use lib.Ieee.Bits.{is_true}
 use Rattle.std.proofs.lemmas.List.{take_all}
 use Rattle.std.proofs.lemmas.Nat.{one_shl}
 use Rattle.readings.specs.Limbs.{natural}
 use Rattle.readings.proofs.Cases.{lt_or_ge}
-use Rattle.readings.proofs.Naturals.{natural_more, shows, below_is, Limbs}
+use Rattle.readings.proofs.Naturals.{natural_more, shows, below_is}
 use Rattle.readings.proofs.limbs.any_below.Goals as goal
 
 pub loop-i-init : goal.loop-i-init

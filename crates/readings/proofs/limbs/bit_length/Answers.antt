@@ -1,5 +1,5 @@
 -- A limb that is not zero has the highest bit so far.
-use Rattle.std.proofs.Common.{◌≡◌, ℕ, zero, suc, ◌+◌, ◌-◌, ◌*◌, ◌^◌, ◌<◌, ◌≤◌, ◌≢◌, List, length, get_or, take, sym, refl, ap, ◌∙◌, subst, add-zero, zero-mul, add-one, arith}
+use Rattle.std.proofs.Common.{◌≡◌, ℕ, suc, ◌+◌, ◌-◌, ◌*◌, ◌^◌, ◌<◌, ◌≢◌, List, length, get_or, take, sym, refl, ap, ◌∙◌, add-zero, zero-mul, add-one, arith}
 use lib.Count.{count_leading_zeros, leading_top}
 use lib.Ieee.{size}
 use Rattle.std.proofs.lemmas.List.{take_all}

@@ -1,5 +1,5 @@
 -- Two limbs hold the 64 bits.
-use Rattle.std.proofs.Common.{◌≡◌, ℕ, ◌+◌, ◌*◌, ◌/◌, ◌%◌, ◌^◌, get_or, ap, ◌∙◌}
+use Rattle.std.proofs.Common.{ℕ, ◌+◌, ◌*◌, ◌/◌, ◌%◌, ◌^◌, get_or, ap, ◌∙◌}
 use Rattle.readings.proofs.Naturals.{read_bits}
 use Rattle.readings.proofs.limbs.bits_from.Goals as goal
 

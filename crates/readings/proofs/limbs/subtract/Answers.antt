@@ -1,5 +1,5 @@
 -- One turn takes a limb and the borrow from a limb, and borrows for what is lacking.
-use Rattle.std.proofs.Common.{◌≡◌, ℕ, ◌+◌, ◌-◌, ◌*◌, ◌/◌, ◌%◌, ◌^◌, ◌<◌, ◌≤◌, List, length, get_or, sym, refl, ap, ◌∙◌, subst, zero-lt-suc, le_antisymm, arith}
+use Rattle.std.proofs.Common.{◌≡◌, ℕ, ◌+◌, ◌-◌, ◌*◌, ◌%◌, ◌^◌, ◌<◌, List, length, get_or, sym, refl, ap, ◌∙◌, subst, zero-lt-suc, le_antisymm, arith}
 use Rattle.std.proofs.lemmas.List.{take_all}
 use Rattle.readings.specs.Limbs.{natural}
 use Rattle.readings.proofs.Naturals.{subtract_turn, written_lt}

@@ -1,5 +1,5 @@
 -- What is written, and the part of the other number that is taken, make up what was there and the borrow at its place. What is written is below its weight.
-use Rattle.std.proofs.Common.{◌≡◌, ◌+◌, ◌*◌, ◌^◌, ◌<◌, ◌≤◌, length, take}
+use Rattle.std.proofs.Common.{◌≡◌, ◌+◌, ◌*◌, ◌^◌, ◌<◌, ◌≤◌, take}
 use Rattle.readings.specs.Limbs.{natural}
 use Rattle.readings.proofs.limbs.subtract.Given as goal
 

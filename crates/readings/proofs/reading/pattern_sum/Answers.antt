@@ -1,5 +1,5 @@
 -- The shifted significand is the size; the sign bit alone is zero's.
-use Rattle.std.proofs.Common.{◌≡◌, ℕ, ◌+◌, ◌*◌, ◌^◌, ◌<◌, ◌≤◌, false, ltb, leb, length, ℤ, sym, refl, ap, ◌∙◌, subst, le_trans, le_of_eq, lt_of_le_of_lt, zero-add, arith}
+use Rattle.std.proofs.Common.{◌≡◌, ℕ, ◌+◌, ◌*◌, ◌^◌, ◌<◌, ◌≤◌, false, ltb, leb, length, ℤ, sym, ap, ◌∙◌, subst, le_trans, le_of_eq, lt_of_le_of_lt, zero-add, arith}
 use lib.Ieee.{binary32, binary64}
 use Rattle.numbers.specs.Units.{signed}
 use Rattle.readings.specs.Formats.{Encodes, largest}

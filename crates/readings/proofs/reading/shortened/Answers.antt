@@ -1,9 +1,8 @@
 -- The long reading is refused or rounded once more.
-use Rattle.std.proofs.Common.{◌≡◌, ℕ, ◌%◌, ◌^◌, ◌≤◌, Bool, true, T, ltb, nat_abs, sym, refl, subst, le_trans, le_of_eq, ltb→lt}
-use lib.Ieee.{binary32, binary64}
+use Rattle.std.proofs.Common.{ℕ, ◌%◌, ◌^◌, ◌≤◌, T, nat_abs, sym, refl, subst, le_trans, le_of_eq, ltb→lt}
+use lib.Ieee.{binary32}
 use Rattle.readings.specs.Formats.{largest}
 use Rattle.readings.specs.Limbs.{natural}
-use Rattle.readings.specs.Readings.{short_limit}
 use Rattle.readings.specs.Sums.{sum_value}
 use Rattle.readings.proofs.Directions.{size_of}
 use Rattle.readings.proofs.Widths.{too_large, short_limit_lem}

@@ -1,5 +1,5 @@
 -- The fields of the pattern say its size.
-use Rattle.std.proofs.Common.{◌≡◌, ℕ, suc, ◌+◌, ◌-◌, ◌*◌, ◌/◌, ◌%◌, ◌^◌, ◌<◌, ◌≤◌, leb, sym, ap, ◌∙◌, subst, arith, lit<}
+use Rattle.std.proofs.Common.{◌≡◌, ℕ, suc, ◌+◌, ◌-◌, ◌*◌, ◌/◌, ◌%◌, ◌^◌, ◌<◌, ◌≤◌, leb, ap, ◌∙◌, subst, arith, lit<}
 use lib.Ieee.{binary32, binary64}
 use Rattle.numbers.specs.Units.{signed}
 use Rattle.readings.specs.Formats.{Encodes, largest}

@@ -1,7 +1,6 @@
 -- Each pattern is answered by its value. Assumes nothing.
 use Rattle.std.proofs.Common.{◌≡◌, ℕ, ◌%◌, ◌^◌, ◌<◌, cond, ◌&&◌, eqb, ◌⊎◌, sym, refl, ap, ◌∙◌, subst, ap₂, inr, arith}
 use borrow.Author.Differences.{ints}
-use Rattle.numbers.specs.Patterns.{field_of, fraction_of}
 use Rattle.numbers.proofs.Encoding.{both_zero, not_zero, zero-answer, zero-factor, refused-answer, outside_answer, made-answer, made-factor}
 use Rattle.numbers.proofs.Floats.{pattern-value}
 use Rattle.numbers.proofs.patterns.PatternsKind.factor.Goals as goal

@@ -1,5 +1,5 @@
 -- The summand has room on its side, and moves the sum by its value.
-use Rattle.std.proofs.Common.{◌≡◌, ℕ, ◌+◌, ◌*◌, ◌/◌, ◌^◌, ◌<◌, ◌≤◌, Bool, true, false, length, ℤ, pos, ◌+ℤ◌, ◌-ℤ◌, neg_ℤ, sym, refl, ap, ◌∙◌, subst, arith}
+use Rattle.std.proofs.Common.{◌≡◌, ℕ, ◌*◌, ◌^◌, ◌≤◌, Bool, true, false, length, ℤ, pos, ◌+ℤ◌, ◌-ℤ◌, sym, refl, ap, ◌∙◌, subst, arith}
 use Rattle.numbers.specs.Units.{rank, signed, units}
 use Rattle.readings.specs.Limbs.{natural, summand_limit}
 use Rattle.readings.proofs.Bounds.{room, above_more, below_more}

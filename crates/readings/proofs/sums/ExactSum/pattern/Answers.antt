@@ -1,9 +1,9 @@
 -- The sign bit goes before the pattern of the size, and the whole is the rounding.
-use Rattle.std.proofs.Common.{◌≡◌, ℕ, ◌+◌, ◌^◌, ◌<◌, ◌≤◌, Bool, cond, nat_abs, sym, ap, ◌∙◌, subst, le_trans, le_of_eq}
-use lib.Ieee.{Format, top}
+use Rattle.std.proofs.Common.{◌≡◌, ℕ, ◌+◌, ◌^◌, ◌<◌, ◌≤◌, cond, nat_abs, sym, ap, ◌∙◌, subst, le_trans, le_of_eq}
+use lib.Ieee.{top}
 use Rattle.readings.specs.Formats.{format_of, largest}
 use Rattle.readings.specs.Limbs.{natural}
-use Rattle.readings.specs.Rounded.{mode_of, size_pattern, rounded}
+use Rattle.readings.specs.Rounded.{size_pattern, rounded}
 use Rattle.readings.specs.Rounding.{Rounds}
 use Rattle.readings.specs.Sums.{sum_value}
 use Rattle.readings.specs.declared.rounding.Mode.{Mode}
