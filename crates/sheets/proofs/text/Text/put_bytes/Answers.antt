@@ -27,7 +27,7 @@ loop-byte-preserved c =
     let more = take_more bytes i 0 c.loop-byte-test.true in
     let group = append_assoc (text_of c.args.self.now) (take i bytes) (b ∷ []) in
     let was = c.loop-byte.invariant in
-    let now-is = c.put-byte.ensures.bytes in
+    let now-is = c.put_byte.ensures.bytes in
     cc
 
 pub returns : goal.returns
