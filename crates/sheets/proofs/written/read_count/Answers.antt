@@ -18,7 +18,7 @@ returns-then-size-eq0 c =
     let bytes = c.args.bytes.now in
     let negative = c.begins_with-negative.result in
     let sign = c.if-negative.sign in
-    let sign_is : sign ≡ cond negative 1 0 = elim c.if-negative.branch [ then-negative w ↦ w.sign_is ∙ sym (cond-true negative 1 0 w.if-negative.true) | else-negative w ↦ w.sign_is ∙ sym (cond-false negative 1 0 w.if-negative.false) ] in
+    let sign_is : sign ≡ cond negative 1 0 = elim c.if-negative.branch [ then-negative w ↦ w.sign-is ∙ sym (cond-true negative 1 0 w.if-negative.true) | else-negative w ↦ w.sign-is ∙ sym (cond-false negative 1 0 w.if-negative.false) ] in
     let no_zero : begins 48 bytes ≡ false = sym c.begins_with.ensures.answer ∙ c.if-begins_with.false in
     let size_is : c.read_size-size.result.count ≡ size_run (drop sign bytes) = c.read_size-size.ensures.count ∙ ap size_run (take_rest bytes sign) in
     record { answer = count_stop bytes negative sign no_zero (sym c.begins_with-negative.ensures.answer) sign_is (sym size_is ∙ c.if-size-eq0.true); law = count-leads }
@@ -27,7 +27,7 @@ pub overflow_add-result : goal.overflow_add-result
 overflow_add-result c =
     let bytes = c.args.bytes.now in
     let sign = c.if-negative.sign in
-    let sign-most : sign ≤ 1 = elim c.if-negative.branch [ then-negative w ↦ omega (arith, w.sign_is) | else-negative w ↦ omega (arith, w.sign_is) ] in
+    let sign-most : sign ≤ 1 = elim c.if-negative.branch [ then-negative w ↦ omega (arith, w.sign-is) | else-negative w ↦ omega (arith, w.sign-is) ] in
     let size_is : c.read_size-size.result.count ≡ size_run (drop sign bytes) = c.read_size-size.ensures.count ∙ ap size_run (take_rest bytes sign) in
     let most = size-most (drop sign bytes) in
     search rules
@@ -38,7 +38,7 @@ returns c =
     let negative = c.begins_with-negative.result in
     let sign = c.if-negative.sign in
     let count = c.read_size-size.result.count in
-    let sign_is : sign ≡ cond negative 1 0 = elim c.if-negative.branch [ then-negative w ↦ w.sign_is ∙ sym (cond-true negative 1 0 w.if-negative.true) | else-negative w ↦ w.sign_is ∙ sym (cond-false negative 1 0 w.if-negative.false) ] in
+    let sign_is : sign ≡ cond negative 1 0 = elim c.if-negative.branch [ then-negative w ↦ w.sign-is ∙ sym (cond-true negative 1 0 w.if-negative.true) | else-negative w ↦ w.sign-is ∙ sym (cond-false negative 1 0 w.if-negative.false) ] in
     let no_zero : begins 48 bytes ≡ false = sym c.begins_with.ensures.answer ∙ c.if-begins_with.false in
     let cut = take_rest bytes sign in
     let size_is : count ≡ size_run (drop sign bytes) = c.read_size-size.ensures.count ∙ ap size_run cut in
