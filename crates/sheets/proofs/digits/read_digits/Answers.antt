@@ -1,7 +1,6 @@
 -- Each digit makes the run one longer and carries the number on; another byte, `most` or the text's end stops it.
 use Rattle.std.proofs.Common.{◌≡◌, ◌+◌, ◌-◌, ◌*◌, ◌^◌, ◌<◌, ◌≤◌, length, get_or, take, drop, sym, refl, ap, ◌∙◌, zero-add, arith, rules}
 use native.Mathlib.Nat.{pow-zero, pow-le-pow_right, sub-zero}
-use Rattle.std.proofs.lemmas.List.{take_all}
 use Rattle.std.proofs.lemmas.Bool.{lt-ltb, le-ltb}
 use Rattle.sheets.specs.Digits.{run, number_of, worth, is_digit}
 use Rattle.sheets.proofs.Numerals.{run_more, run_stop, run_none, run_end, number_more, power_more}

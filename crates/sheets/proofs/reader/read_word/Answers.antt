@@ -1,7 +1,5 @@
 -- The line begins with one of the words, or shares some bytes with each.
-use Rattle.std.proofs.Common.{◌≡◌, ◌+◌, ◌<◌, ◌≤◌, max, length, codes, sym, refl, ap, ◌∙◌, arith, rules}
-use Rattle.sheets.specs.Forms.{shared, reach}
-use Rattle.sheets.specs.Shapes.{line_shape}
+use Rattle.std.proofs.Common.{codes, sym, refl, ◌∙◌, arith}
 use Rattle.sheets.proofs.Literals.{word_add, word_sub, no_word, shared-within}
 use Rattle.sheets.proofs.reader.read_word.Goals as goal
 

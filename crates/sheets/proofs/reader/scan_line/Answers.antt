@@ -1,9 +1,6 @@
 -- Each way out of the scan, by how far the line goes along with the shape.
-use Rattle.std.proofs.Common.{◌≡◌, ◌+◌, ◌<◌, ◌≤◌, length, Ok, Err, sym, refl, ap, ◌∙◌, subst, arith}
+use Rattle.std.proofs.Common.{sym, refl, ◌∙◌, arith}
 use Rattle.std.proofs.lemmas.Result.{err_from_is_err_and}
-use Rattle.numbers.specs.declared.refusal.Refusal.{Refusal}
-use Rattle.numbers.specs.Refusals.{Refused, code_of, side_of}
-use Rattle.sheets.specs.Lines.{Scans}
 use Rattle.sheets.proofs.Entire.{misshapen_at, first_stop, no_tab_past, no_tab_at, second_stop, too_long, has_parts}
 use Rattle.sheets.proofs.reader.scan_line.Goals as goal
 

@@ -1,5 +1,5 @@
 -- Each part goes behind the others, and all of them have room.
-use Rattle.std.proofs.Common.{◌≡◌, ◌+◌, ◌<◌, ◌≤◌, [], ◌++◌, length, codes, decimal, sym, refl, ap, ◌∙◌, subst, arith, length-append}
+use Rattle.std.proofs.Common.{[], ◌++◌, codes, decimal, arith, length-append}
 use Rattle.sheets.specs.Outputs.{text_of}
 use Rattle.sheets.specs.Reports.{refused_report}
 use Rattle.sheets.proofs.Outputs.{put_on, length_decimal}

@@ -1,5 +1,5 @@
 -- The word and the two fields, one behind the other.
-use Rattle.std.proofs.Common.{◌≡◌, ℕ, ◌+◌, ◌<◌, ◌≤◌, List, [], ◌∷◌, ◌++◌, length, sym, refl, ap, ◌∙◌, subst, arith, length-append}
+use Rattle.std.proofs.Common.{◌≡◌, ◌∷◌, ◌++◌, ap, ◌∙◌, arith}
 use Rattle.sheets.specs.Lines.{word_text, line_text}
 use Rattle.sheets.specs.Outputs.{text_of}
 use Rattle.sheets.proofs.Words.{word-put, first-room, second-room}

@@ -1,5 +1,5 @@
 -- A tab, the letter and the text, each behind the other; there is room for all.
-use Rattle.std.proofs.Common.{◌≡◌, ◌+◌, ◌<◌, ◌≤◌, [], ◌∷◌, ◌++◌, length, sym, refl, ap, ◌∙◌, subst, append_assoc, arith, length-append}
+use Rattle.std.proofs.Common.{◌≡◌, [], ◌∷◌, ◌++◌, length, refl, ap, ◌∙◌, append_assoc, arith, length-append}
 use Rattle.sheets.specs.Outputs.{text_of, put}
 use Rattle.sheets.proofs.Outputs.{put_on}
 use Rattle.sheets.proofs.writer.put_field.Goals as goal

@@ -1,7 +1,7 @@
 -- The word and the two fields of the line that was read make up its bytes again.
-use Rattle.std.proofs.Common.{◌≡◌, ℕ, ◌+◌, ◌<◌, ◌≤◌, List, [], ◌∷◌, ◌++◌, length, sym, refl, ap, ◌∙◌, subst, arith}
+use Rattle.std.proofs.Common.{◌≡◌, ℕ, List, ◌∷◌, ◌++◌, length, sym, ap, ◌∙◌, subst, arith}
 use Rattle.sheets.specs.Copies.{Copies, copied}
-use Rattle.sheets.specs.Lines.{IsLine, word_text, field_text, line_text}
+use Rattle.sheets.specs.Lines.{IsLine, field_text}
 use Rattle.sheets.specs.Outputs.{text_of, Fits, handed}
 use Rattle.sheets.proofs.Words.{word-length, word-put, first-room, copies}
 use Rattle.sheets.proofs.writer.write_again.Goals as goal

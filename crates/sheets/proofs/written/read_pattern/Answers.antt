@@ -1,6 +1,6 @@
 -- A pattern's text is a run of 16 digits.
-use Rattle.std.proofs.Common.{◌≡◌, ◌+◌, ◌<◌, ◌≤◌, length, take, Some, sym, refl, ap, ◌∙◌, subst, arith, lit<, lit≤, rules}
-use Rattle.sheets.specs.Digits.{AllDigits, run, number_of}
+use Rattle.std.proofs.Common.{◌≡◌, ◌<◌, take, Some, sym, ◌∙◌, subst, arith, lit<, lit≤}
+use Rattle.sheets.specs.Digits.{run, number_of}
 use Rattle.sheets.specs.Elements.{TextAt, pattern_text, NoPattern}
 use Rattle.sheets.specs.Shapes.{pattern_shape}
 use Rattle.sheets.proofs.Leading.{pattern-leads}

@@ -1,10 +1,10 @@
 -- The sign where there is one, and then the size.
-use Rattle.std.proofs.Common.{◌≡◌, ◌+◌, ◌-◌, ◌<◌, ◌≤◌, Bool, true, false, cond, List, [], ◌∷◌, ◌++◌, length, pos, nat_abs, decimal, sym, refl, ap, ◌∙◌, subst, arith, w32, to_z, of_z}
+use Rattle.std.proofs.Common.{◌≡◌, true, false, [], ◌∷◌, pos, nat_abs, decimal, sym, ap, ◌∙◌, subst, arith, w32, to_z, of_z}
 use lib.Signed.{lt_z}
 use Rattle.std.proofs.lemmas.Int.{to_z-of_z}
 use Rattle.sheets.specs.Elements.{Outside, count_text}
-use Rattle.sheets.specs.Outputs.{text_of, put}
-use Rattle.sheets.proofs.Counted.{Spelled, spelled_count, inside, sign_text, spelled}
+use Rattle.sheets.specs.Outputs.{text_of}
+use Rattle.sheets.proofs.Counted.{spelled_count, inside, sign_text, spelled}
 use Rattle.sheets.proofs.Leading.{count-leads, count-back}
 use Rattle.sheets.proofs.Outputs.{put_on, length_decimal}
 use Rattle.sheets.proofs.written.text_of_count.Goals as goal

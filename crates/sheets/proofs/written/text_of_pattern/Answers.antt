@@ -1,5 +1,5 @@
 -- The 16 last digits of the pattern.
-use Rattle.std.proofs.Common.{◌≡◌, ◌+◌, ◌<◌, ◌≤◌, [], length, sym, refl, ap, ◌∙◌, subst, arith, lit<, lit≤, rules}
+use Rattle.std.proofs.Common.{◌≡◌, [], refl, subst, arith, lit<, lit≤}
 use Rattle.sheets.specs.Digits.{last_digits}
 use Rattle.sheets.specs.Elements.{pattern_text}
 use Rattle.sheets.specs.Outputs.{text_of}

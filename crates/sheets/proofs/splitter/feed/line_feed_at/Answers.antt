@@ -1,5 +1,5 @@
 -- Byte after byte, up to a line feed or the end.
-use Rattle.std.proofs.Common.{◌+◌, ◌<◌, ◌≤◌, arith}
+use Rattle.std.proofs.Common.{arith}
 use Rattle.sheets.proofs.Chunks.{feed_more, feed_stop, feed_end}
 use Rattle.sheets.proofs.splitter.feed.line_feed_at.Goals as goal
 

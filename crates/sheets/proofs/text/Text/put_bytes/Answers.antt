@@ -1,5 +1,5 @@
 -- Byte after byte, once there is room for all.
-use Rattle.std.proofs.Common.{◌≡◌, ◌+◌, ◌<◌, ◌≤◌, [], ◌∷◌, ◌++◌, length, get_or, take, sym, refl, ap, ◌∙◌, append_assoc, arith, length-append, rules}
+use Rattle.std.proofs.Common.{◌≡◌, ◌+◌, [], ◌∷◌, ◌++◌, length, get_or, take, sym, ap, ◌∙◌, append_assoc, arith, length-append, rules}
 use Rattle.std.proofs.lemmas.List.{length-take-le, take_more, take_all, append-nil}
 use Rattle.sheets.specs.Outputs.{text_of, put}
 use Rattle.sheets.proofs.Outputs.{put_fits, put_full}

@@ -1,5 +1,5 @@
 -- The last digits, as many as there are, are the decimal text.
-use Rattle.std.proofs.Common.{arith, lit<, lit≤, rules}
+use Rattle.std.proofs.Common.{arith, lit<, lit≤}
 use Rattle.std.proofs.lemmas.Fmt.{length-decimal-le}
 use Rattle.sheets.proofs.Numerals.{decimal_last}
 use Rattle.sheets.proofs.text.Text.put_decimal.Goals as goal

@@ -1,9 +1,8 @@
 -- Each turn writes the lowest digit that is left before those that stand already.
-use Rattle.std.proofs.Common.{◌≡◌, suc, ◌+◌, ◌-◌, ◌/◌, ◌%◌, ◌<◌, ◌≤◌, [], ◌∷◌, ◌++◌, length, take, drop, set, sym, refl, ap, ◌∙◌, arith, length-set, rules}
+use Rattle.std.proofs.Common.{◌≡◌, suc, ◌+◌, ◌-◌, ◌%◌, ◌∷◌, take, drop, set, sym, refl, ◌∙◌, arith, length-set}
 use native.Mathlib.Nat.{sub-zero}
 use Rattle.std.proofs.lemmas.List.{drop-set, take_all, length-drop, append-nil}
 use Rattle.sheets.specs.Digits.{last_digits, digit_byte}
-use Rattle.sheets.specs.Outputs.{text_of, put}
 use Rattle.sheets.proofs.Numerals.{last_more}
 use Rattle.sheets.proofs.text.Text.put_digits.Goals as goal
 
