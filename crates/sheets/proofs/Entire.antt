@@ -108,8 +108,8 @@ module _ (line : List ℕ) (w : Word) (front : line ≡ word_text w ++ (9 ∷ dr
           refused = r;
         }
 
-        pub second-out : length line ≤ other.end → (f : Field) → found.field ≡ Some f → other.field ≡ None → (e : Refusal) → Refused e 6 (tab + 1) 2 → SecondOut line e
-        second-out h f some none e r =
+        pub second_out : length line ≤ other.end → (f : Field) → found.field ≡ Some f → other.field ≡ None → (e : Refusal) → Refused e 6 (tab + 1) 2 → SecondOut line e
+        second_out h f some none e r =
             let is : IsField (between 4 tab line) 4 f = subst (λ o. MatchOption o (OutOfRange (between 4 tab line)) (λ f. IsField (between 4 tab line) 4 f)) some first.field_is in
             record {
               word = word_text w;
@@ -138,5 +138,5 @@ module _ (line : List ℕ) (w : Word) (front : line ≡ word_text w ++ (9 ∷ dr
               room = room;
               both = line_read h;
               first_out = first_out h;
-              second-out = second-out h;
+              second_out = second_out h;
             }

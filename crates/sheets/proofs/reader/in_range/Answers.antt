@@ -11,7 +11,7 @@ pub returns-in_default-second : goal.returns-in_default-second
 returns-in_default-second c =
     let some : c.args.scanned.first ≡ Some c.in-Some.first = c.in-Some.is in
     let none : c.args.scanned.second ≡ None = c.in_default-second.is in
-    record { answer = λ line parts. inr (inr (parts.second-out c.in-Some.first some none c.out_of_range-in_default-second.result c.out_of_range-in_default-second.ensures.answer)) }
+    record { answer = λ line parts. inr (inr (parts.second_out c.in-Some.first some none c.out_of_range-in_default-second.result c.out_of_range-in_default-second.ensures.answer)) }
 
 pub returns : goal.returns
 returns c =
