@@ -1,10 +1,10 @@
 -- Lines, parted at line feeds, chunk by chunk. Assumes nothing.
 use Rattle.std.proofs.Common.{◌≡◌, ℕ, zero, suc, ◌+◌, ◌-◌, ◌^◌, ◌<◌, ◌≤◌, min, Bool, true, false, cond, eqb, ltb, ◌⊎◌, List, [], ◌∷◌, ◌++◌, length, get_or, take, drop, MatchBool, sym, refl, ap, ◌∙◌, subst, inl, inr, append_assoc, arith, length-append}
 use native.Mathlib.Nat.{sub-zero}
-use Rattle.std.proofs.lemmas.List.{drop_more, drop_all, take_more, take_all, append-nil, length-take, length-take-le}
+use Rattle.std.proofs.lemmas.List.{drop_more, drop_all, take_more, take_all, append-nil, length-take}
 use Rattle.std.proofs.lemmas.Bool.{eqb-true, eq-eqb, ne_eqb, cond-true, cond-false, cases_lt, lt-ltb, both_ways}
 use Rattle.sheets.specs.declared.splitter.Splitter.{Splitter}
-use Rattle.sheets.specs.Splitting.{longer, ended, begun, last, sheet_lines, feed_at, held, current, yielded, Parting, Took, After}
+use Rattle.sheets.specs.Splitting.{longer, ended, begun, last, feed_at, held, current, yielded, Parting, Took, After}
 
 -- bytes in two chunks
 pub ended_join : (line a b : List ℕ) → ended line (a ++ b) ≡ ended line a ++ ended (begun line a) b

@@ -1,5 +1,5 @@
 -- The texts of counts: how far bytes go along them, and which number they write. Assumes nothing.
-use Rattle.std.proofs.Common.{◌≡◌, ℕ, zero, suc, ◌+◌, ◌-◌, ◌*◌, ◌^◌, ◌<◌, ◌≤◌, max, Bool, true, false, cond, not, ◌&&◌, eqb, ltb, ◌⊎◌, List, [], ◌∷◌, ◌++◌, length, get_or, take, drop, ℤ, pos, negsuc, neg_ℤ, nat_abs, Some, None, codes, decimal, Option, sym, refl, ap, ◌∙◌, subst, inl, inr, zero-add, add-one, one-add, arith, lit<, lit≤, w32, SFits, MatchOption}
+use Rattle.std.proofs.Common.{◌≡◌, ℕ, zero, suc, ◌+◌, ◌-◌, ◌*◌, ◌^◌, ◌<◌, ◌≤◌, max, Bool, true, false, cond, not, ◌&&◌, eqb, List, [], ◌∷◌, length, get_or, take, drop, ℤ, pos, negsuc, neg_ℤ, nat_abs, Some, None, decimal, Option, sym, refl, ap, ◌∙◌, subst, inl, inr, zero-add, one-add, arith, lit<, lit≤, w32, SFits, MatchOption}
 use borrow.Author.Differences.{ints}
 use lib.Signed.{lt_z}
 use Rattle.numbers.specs.Units.{signed as with_sign}
@@ -8,12 +8,12 @@ use Rattle.std.specs.Int.{IsInRange}
 use Rattle.std.proofs.lemmas.Fmt.{decimal_digit as decimal_digit_lem, decimal-digits_value, digits_decimal, digits_value-decimal, first_decimal, decimal_nonempty, length-decimal-le}
 use Rattle.std.proofs.lemmas.List.{length-take-le}
 use Rattle.std.proofs.lemmas.Str.Parse.{IsNumeralModel, IsDigitsTest, FoldsDigits, numerals_by_fold, digits_value_short}
-use Rattle.std.proofs.lemmas.Bool.{both_ways, eqb-true, eqb-false, eq-eqb, ne_eqb, and_from, not_from_false, ltb-true, lt-ltb, le-ltb, cond-false}
+use Rattle.std.proofs.lemmas.Bool.{both_ways, eqb-true, eqb-false, ne_eqb, and_from, not_from_false, ltb-true, lt-ltb, le-ltb, cond-false}
 use Rattle.std.proofs.lemmas.Bool.Decides.{nat_tests}
 use Rattle.sheets.specs.Digits.{worth, is_digit, AllDigits, begins, run, size_run, number_on, number_of}
 use Rattle.sheets.specs.Elements.{Outside, Within, TextAt, Closed, count_text, count_of, NoCount}
-use Rattle.sheets.specs.Forms.{Class, Form, end, one, either, Lang, reach}
-use Rattle.sheets.specs.Shapes.{byte, decimal_digit, leading_digit, literal, up_to, size_shape, count_shape}
+use Rattle.sheets.specs.Forms.{Form, end, one, Lang, reach}
+use Rattle.sheets.specs.Shapes.{byte, decimal_digit, up_to, size_shape, count_shape}
 use Rattle.sheets.proofs.Fields.{run_digits, up_to-reach, digits_up_to}
 use Rattle.sheets.proofs.Numerals.{run-within}
 

@@ -1,21 +1,20 @@
 -- A whole line: how far it goes along with the shape, and what its parts are. Assumes nothing.
-use Rattle.std.proofs.Common.{◌≡◌, ℕ, zero, suc, ◌+◌, ◌-◌, ◌^◌, ◌<◌, ◌≤◌, max, Bool, true, false, cond, eqb, ◌⊎◌, List, [], ◌∷◌, ◌++◌, length, get_or, take, drop, Some, None, Ok, Err, codes, Option, sym, refl, ap, ◌∙◌, subst, inl, inr, append_assoc, arith, MatchOption}
+use Rattle.std.proofs.Common.{◌≡◌, ℕ, suc, ◌+◌, ◌-◌, ◌^◌, ◌<◌, ◌≤◌, ◌⊎◌, List, ◌∷◌, ◌++◌, length, get_or, take, drop, Some, None, codes, sym, refl, ap, ◌∙◌, subst, inl, inr, append_assoc, arith, MatchOption}
 use Rattle.std.specs.List.{between}
 use Rattle.std.proofs.lemmas.List.{drop_more, drop_all, drop-drop, length-drop, length-take-le, take-append-drop}
 use Rattle.std.proofs.lemmas.Slice.{between_to_end}
-use Rattle.std.proofs.lemmas.Bool.{eqb-true, ne_eqb, both_ways}
+use Rattle.std.proofs.lemmas.Bool.{ne_eqb, both_ways}
 use Rattle.numbers.specs.declared.refusal.Refusal.{Refusal}
 use Rattle.numbers.specs.Refusals.{Refused}
 use Rattle.sheets.specs.declared.line.Field.{Field}
-use Rattle.sheets.specs.declared.line.Line.{Line}
 use Rattle.sheets.specs.declared.line.Word.{Word}
 use Rattle.sheets.specs.declared.line.Word.TheVariants.{Add, Sub}
 use Rattle.sheets.specs.declared.reader.Found.{Found}
 use Rattle.sheets.specs.Digits.{is_digit}
 use Rattle.sheets.specs.Elements.{Closed}
-use Rattle.sheets.specs.Forms.{Form, end, one, either, Lang, reach, Astray}
-use Rattle.sheets.specs.Lines.{word_text, field_text, place_of, OutOfRange, IsField, FieldAt, Parts, IsLine, FirstOut, SecondOut, HasParts}
-use Rattle.sheets.specs.Shapes.{byte, literal, field_shape, pair_shape, line_shape}
+use Rattle.sheets.specs.Forms.{Form, end, reach, Astray}
+use Rattle.sheets.specs.Lines.{word_text, field_text, OutOfRange, IsField, FieldAt, Parts, IsLine, FirstOut, SecondOut, HasParts}
+use Rattle.sheets.specs.Shapes.{literal, field_shape, pair_shape, line_shape}
 use Rattle.sheets.proofs.Forms.{astray}
 
 -- no text begins with a digit that has a tab in front, and none that is empty
@@ -109,8 +108,8 @@ module _ (line : List ℕ) (w : Word) (front : line ≡ word_text w ++ (9 ∷ dr
           refused = r;
         }
 
-        pub second-out : length line ≤ other.end → (f : Field) → found.field ≡ Some f → other.field ≡ None → (e : Refusal) → Refused e 6 (tab + 1) 2 → SecondOut line e
-        second-out h f some none e r =
+        pub second_out : length line ≤ other.end → (f : Field) → found.field ≡ Some f → other.field ≡ None → (e : Refusal) → Refused e 6 (tab + 1) 2 → SecondOut line e
+        second_out h f some none e r =
             let is : IsField (between 4 tab line) 4 f = subst (λ o. MatchOption o (OutOfRange (between 4 tab line)) (λ f. IsField (between 4 tab line) 4 f)) some first.field_is in
             record {
               word = word_text w;
@@ -139,5 +138,5 @@ module _ (line : List ℕ) (w : Word) (front : line ≡ word_text w ++ (9 ∷ dr
               room = room;
               both = line_read h;
               first_out = first_out h;
-              second-out = second-out h;
+              second_out = second_out h;
             }

@@ -1,12 +1,10 @@
 -- How far a text goes along the shapes of a pattern and of a count. Assumes nothing.
-use Rattle.std.proofs.Common.{◌≡◌, ℕ, zero, suc, ◌+◌, ◌-◌, ◌<◌, ◌≤◌, max, Bool, true, false, cond, not, ◌&&◌, eqb, ltb, leb, ◌⊎◌, List, [], ◌∷◌, ◌++◌, length, get_or, take, drop, Some, None, sym, refl, ap, ◌∙◌, subst, inl, inr, arith, lit<, lit≤}
+use Rattle.std.proofs.Common.{◌≡◌, ℕ, zero, suc, ◌+◌, ◌<◌, ◌≤◌, max, Bool, true, false, cond, List, [], ◌∷◌, length, take, drop, Some, refl, ap, ◌∙◌, subst, inl, inr, arith, lit<, lit≤}
 use Rattle.std.proofs.lemmas.List.{length-take-le}
-use Rattle.std.proofs.lemmas.Bool.{eqb-true, eqb-false, eq-eqb, ne_eqb, both_ways}
-use Rattle.std.proofs.lemmas.Bool.Decides.{nat_tests}
-use Rattle.sheets.specs.Digits.{worth, is_digit, AllDigits, run, number_of, last_digits}
-use Rattle.sheets.specs.Elements.{TextAt, Closed, pattern_text, count_text, NoPattern, NoCount}
-use Rattle.sheets.specs.Forms.{Class, Form, end, one, either, Lang, reach}
-use Rattle.sheets.specs.Shapes.{byte, digit_of, hex_digit, decimal_digit, leading_digit, literal, repeat, up_to, pattern_shape, size_shape, count_shape}
+use Rattle.sheets.specs.Digits.{is_digit, AllDigits, run, number_of, last_digits}
+use Rattle.sheets.specs.Elements.{TextAt, pattern_text, NoPattern}
+use Rattle.sheets.specs.Forms.{Form, end, Lang, reach}
+use Rattle.sheets.specs.Shapes.{digit_of, decimal_digit, repeat, up_to, pattern_shape}
 use Rattle.sheets.proofs.Numerals.{run-within, last-number}
 
 -- the bytes of a run are digits

@@ -1,7 +1,7 @@
 -- What `reach` tells of a text and a form. Assumes nothing.
-use Rattle.std.proofs.Common.{◌≡◌, ℕ, zero, suc, ◌<◌, ◌≤◌, max, Bool, true, false, cond, eqb, leb, ◌⊎◌, List, [], ◌∷◌, length, sym, refl, ap, ◌∙◌, subst, inl, inr, ⊎_elim, arith, rules}
-use Rattle.std.proofs.lemmas.Bool.{eqb-true, eqb-false, eq-eqb, ne_eqb, leb-true, leb-false, both_ways}
-use Rattle.sheets.specs.Forms.{Class, Form, end, one, either, Lang, shared, Astray, reach}
+use Rattle.std.proofs.Common.{◌≡◌, ℕ, suc, ◌≤◌, max, Bool, true, false, cond, eqb, leb, ◌⊎◌, List, [], ◌∷◌, length, refl, ap, ◌∙◌, inl, inr, arith}
+use Rattle.std.proofs.lemmas.Bool.{eqb-true, eq-eqb, ne_eqb, leb-true, leb-false, both_ways}
+use Rattle.sheets.specs.Forms.{Form, end, one, either, Lang, shared, Astray, reach}
 
 -- a text of the form reaches past its end, and no text reaches further
 pub reach_le : (f : Form) (t : List ℕ) → reach f t ≤ suc (length t)

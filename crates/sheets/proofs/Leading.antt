@@ -1,19 +1,19 @@
 -- A field from its letter on: how far a line goes along with it. Assumes nothing.
-use Rattle.std.proofs.Common.{◌≡◌, ℕ, zero, suc, ◌+◌, ◌-◌, ◌^◌, ◌<◌, ◌≤◌, max, Bool, true, false, cond, eqb, ◌⊎◌, List, [], ◌∷◌, ◌++◌, length, get_or, take, drop, ℤ, pos, negsuc, Some, None, Option, sym, refl, ap, ◌∙◌, subst, inl, inr, arith, lit<, lit≤, MatchOption}
+use Rattle.std.proofs.Common.{◌≡◌, ℕ, suc, ◌+◌, ◌-◌, ◌^◌, ◌<◌, ◌≤◌, ◌⊎◌, List, [], ◌∷◌, length, get_or, take, drop, ℤ, pos, negsuc, Some, None, Option, sym, refl, ap, ◌∙◌, subst, inl, inr, arith, lit<, lit≤, MatchOption}
 use borrow.Author.Differences.{ints}
 use lib.Signed.{mag}
 use Rattle.std.specs.List.{between}
 use Rattle.std.proofs.lemmas.List.{drop_more, drop_all, drop-drop, length-drop}
-use Rattle.std.proofs.lemmas.Bool.{eqb-false, ne_eqb, cases_lt}
+use Rattle.std.proofs.lemmas.Bool.{ne_eqb, cases_lt}
 use Rattle.std.proofs.lemmas.Fmt.{signed_decimal_injective}
 use Rattle.sheets.specs.declared.line.Field.{Field}
 use Rattle.sheets.specs.declared.line.Field.TheVariants.{Pattern, Count}
 use Rattle.sheets.specs.declared.written.Read.{Read}
 use Rattle.sheets.specs.Elements.{TextAt, Closed, Outside, pattern_text, count_text, NoPattern, NoCount}
 use Rattle.sheets.specs.Digits.{number_of}
-use Rattle.sheets.specs.Forms.{Form, end, one, either, Lang, reach}
+use Rattle.sheets.specs.Forms.{Form, end, Lang, reach}
 use Rattle.sheets.specs.Lines.{Leads, IsField, FieldAt, OutOfRange, field_text, place_of, Writes, Proper, HoldsPattern, HoldsCount}
-use Rattle.sheets.specs.Shapes.{byte, literal, pattern_shape, count_shape, field_shape}
+use Rattle.sheets.specs.Shapes.{pattern_shape, count_shape, field_shape}
 use Rattle.sheets.proofs.Numerals.{number-last}
 
 pub pattern-leads : Leads 112 pattern_shape NoPattern

@@ -1,9 +1,9 @@
 -- Texts that begin with given bytes. Assumes nothing.
-use Rattle.std.proofs.Common.{◌≡◌, ℕ, zero, suc, ◌+◌, ◌-◌, ◌<◌, ◌≤◌, max, Bool, true, false, cond, eqb, List, [], ◌∷◌, ◌++◌, length, get_or, take, drop, codes, sym, refl, ap, ◌∙◌, subst, arith}
+use Rattle.std.proofs.Common.{◌≡◌, ℕ, suc, ◌+◌, ◌<◌, ◌≤◌, max, Bool, true, false, cond, eqb, List, [], ◌∷◌, ◌++◌, length, get_or, drop, codes, refl, ap, arith}
 use Rattle.std.proofs.lemmas.List.{drop_more, drop_all}
 use Rattle.std.proofs.lemmas.Bool.{eqb-true, eq-eqb, ne_eqb}
-use Rattle.sheets.specs.Forms.{Form, one, reach, shared}
-use Rattle.sheets.specs.Shapes.{byte, literal, pair_shape, line_shape}
+use Rattle.sheets.specs.Forms.{Form, reach, shared}
+use Rattle.sheets.specs.Shapes.{literal, pair_shape, line_shape}
 
 -- shared bytes, one more
 pub shared_more : (s t : List ℕ) (i : ℕ) → i < length s → i < length t → get_or s i 0 ≡ get_or t i 0 → i + shared (drop i s) (drop i t) ≡ (i + 1) + shared (drop (i + 1) s) (drop (i + 1) t)

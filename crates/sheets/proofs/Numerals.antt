@@ -1,5 +1,5 @@
 -- Digits: how far they run, and the numbers that they write. Assumes nothing.
-use Rattle.std.proofs.Common.{◌≡◌, ℕ, zero, suc, ◌+◌, ◌-◌, ◌*◌, ◌/◌, ◌%◌, ◌^◌, ◌<◌, ◌≤◌, Bool, true, false, cond, eqb, ltb, leb, ◌⊎◌, List, [], ◌∷◌, ◌++◌, length, get_or, take, drop, decimal, sym, refl, ap, ◌∙◌, subst, inl, inr, ⊎_elim, append_assoc, add-zero, mul-le-mul_right, mod-lt, mod-eq_of_lt, suc-mul, mul_comm, div-lt_iff_lt-mul, pow-suc, div-add-mod', add-one, arith, rules}
+use Rattle.std.proofs.Common.{◌≡◌, ℕ, zero, suc, ◌+◌, ◌-◌, ◌*◌, ◌/◌, ◌%◌, ◌^◌, ◌<◌, ◌≤◌, Bool, true, false, cond, ltb, List, [], ◌∷◌, ◌++◌, length, get_or, take, drop, decimal, sym, refl, ap, ◌∙◌, subst, append_assoc, add-zero, mul-le-mul_right, mod-lt, mod-eq_of_lt, suc-mul, div-lt_iff_lt-mul, pow-suc, div-add-mod', add-one, arith}
 use native.Mathlib.Nat.{pow-zero, div-eq_of_lt, mul-add-div_right, mul-add-mod_self_right}
 use Rattle.std.proofs.lemmas.List.{drop_more, drop_all, take_more, take_all, length_push, length-take-le, nil_from_length}
 use Rattle.std.proofs.lemmas.Bool.{cond-true, lt-ltb, ltb-true}

@@ -1,14 +1,14 @@
 -- A written line reads back: it is of the shape, and there is one way to part it. Assumes nothing.
-use Rattle.std.proofs.Common.{◌≡◌, ℕ, zero, suc, ◌+◌, ◌<◌, ◌≤◌, Bool, true, false, cond, eqb, ◌⊎◌, List, [], ◌∷◌, ◌++◌, length, Ok, Err, codes, Result, sym, refl, ap, ◌∙◌, subst, inl, inr, append_assoc, arith}
+use Rattle.std.proofs.Common.{◌≡◌, ℕ, zero, suc, false, eqb, ◌⊎◌, List, [], ◌∷◌, ◌++◌, length, Ok, Err, codes, Result, sym, refl, ap, ◌∙◌, subst, inl, inr, append_assoc, arith}
 use Rattle.std.proofs.lemmas.Bool.{eq-eqb, ne_eqb, both_ways}
 use Rattle.numbers.specs.declared.refusal.Refusal.{Refusal}
 use Rattle.sheets.specs.declared.line.Field.{Field}
 use Rattle.sheets.specs.declared.line.Line.{Line}
 use Rattle.sheets.specs.declared.line.Word.{Word}
 use Rattle.sheets.specs.declared.line.Word.TheVariants.{Add, Sub}
-use Rattle.sheets.specs.Forms.{Class, Form, end, one, either, Lang, Astray}
-use Rattle.sheets.specs.Lines.{word_text, line_text, field_text, OutOfRange, Stands, IsField, Parts, IsLine, FirstOut, SecondOut, ReadsLine, ReadsBack, RoundTrip}
-use Rattle.sheets.specs.Shapes.{byte, hex_digit, decimal_digit, leading_digit, literal, repeat, up_to, pattern_shape, size_shape, count_shape, field_shape, pair_shape, line_shape}
+use Rattle.sheets.specs.Forms.{Class, Form, end, one, either, Lang}
+use Rattle.sheets.specs.Lines.{word_text, line_text, field_text, OutOfRange, Stands, Parts, ReadsLine, ReadsBack, RoundTrip}
+use Rattle.sheets.specs.Shapes.{hex_digit, decimal_digit, leading_digit, literal, repeat, up_to, pattern_shape, size_shape, count_shape, field_shape, pair_shape, line_shape}
 
 -- a text of a shape, and then a text of the rest
 join_end : (f t : List ℕ) (rest : Form) → Lang end f → Lang rest t → Lang rest (f ++ t)

@@ -1,5 +1,5 @@
 -- The text of an element of each kind, and what reading one from the front of some bytes tells.
-use Rattle.std.specs.Prelude.{◌≡◌, ℕ, pred, ◌+◌, ◌/◌, ◌^◌, ◌≤◌, true, cond, eqb, ◌⊎◌, List, [], ◌∷◌, length, take, drop, ℤ, pos, neg_ℤ, ◌≤ℤ◌, ◌<ℤ◌, Some, None, Ok, Err, Option, Result, MatchOption}
+use Rattle.std.specs.Prelude.{◌≡◌, ℕ, pred, ◌+◌, ◌/◌, ◌^◌, ◌≤◌, true, cond, ◌⊎◌, List, ◌∷◌, length, take, drop, ℤ, pos, neg_ℤ, ◌≤ℤ◌, ◌<ℤ◌, Some, None, Ok, Err, Option, Result, MatchOption}
 use Rattle.std.specs.Fmt.{signed_decimal}
 use Rattle.sheets.specs.declared.written.Read.{Read}
 use Rattle.sheets.specs.Digits.{is_digit, begins, number_of, last_digits}

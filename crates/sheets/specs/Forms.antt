@@ -1,5 +1,5 @@
 -- Forms of text, the texts of a form, and how far a text goes along a form.
-use Rattle.std.specs.Prelude.{◌≡◌, ℕ, zero, suc, ◌≤◌, max, Bool, true, false, cond, ◌⊎◌, List, [], ◌∷◌, ◌==◌}
+use Rattle.std.specs.Prelude.{◌≡◌, ℕ, suc, ◌≤◌, max, Bool, true, cond, ◌⊎◌, List, [], ◌∷◌, ◌==◌}
 
 -- a class of bytes, with a byte that is in it
 pub record Class : Type 0 where

@@ -1,5 +1,5 @@
 -- A sheet line: its words, its fields, and what reading one answers.
-use Rattle.std.specs.Prelude.{◌≡◌, ℕ, suc, ◌+◌, ◌-◌, ◌^◌, ◌<◌, ◌≤◌, ◌⊎◌, List, [], ◌∷◌, ◌++◌, length, drop, ℤ, Some, None, Ok, Err, codes, Result, MatchOption}
+use Rattle.std.specs.Prelude.{◌≡◌, ℕ, suc, ◌+◌, ◌^◌, ◌<◌, ◌≤◌, ◌⊎◌, List, [], ◌∷◌, ◌++◌, length, drop, ℤ, Some, None, Ok, Err, codes, Result, MatchOption}
 use Rattle.std.specs.List.{between}
 use Rattle.numbers.specs.declared.refusal.Refusal.{Refusal}
 use Rattle.numbers.specs.Refusals.{Refused}
@@ -132,7 +132,7 @@ pub record HasParts (line : List ℕ) (s : Scanned) : Type 0 where
   pub room : s.tab + 1 < 2 ^ 64
   pub both : (f g : Field) → s.first ≡ Some f → s.second ≡ Some g → IsLine line (record { word = s.word; first = f; second = g })
   pub first_out : s.first ≡ None → (e : Refusal) → Refused e 6 4 1 → FirstOut line e
-  pub second-out : (f : Field) → s.first ≡ Some f → s.second ≡ None → (e : Refusal) → Refused e 6 (s.tab + 1) 2 → SecondOut line e
+  pub second_out : (f : Field) → s.first ≡ Some f → s.second ≡ None → (e : Refusal) → Refused e 6 (s.tab + 1) 2 → SecondOut line e
 
 abbrev pub Scans : List ℕ → Result Scanned Refusal → Type 0
 Scans line (Ok s) = HasParts line s

@@ -1,5 +1,5 @@
 -- The lines of a sheet: its bytes, parted at line feeds, of each line the first 40 bytes.
-use Rattle.std.specs.Prelude.{◌≡◌, ℕ, suc, ◌+◌, ◌-◌, ◌^◌, ◌<◌, ◌≤◌, min, Bool, true, false, cond, List, [], ◌∷◌, ◌++◌, length, take, ◌==◌}
+use Rattle.std.specs.Prelude.{◌≡◌, ℕ, suc, ◌+◌, ◌-◌, ◌^◌, ◌<◌, ◌≤◌, min, false, cond, List, [], ◌∷◌, ◌++◌, length, take, ◌==◌}
 use Rattle.sheets.specs.declared.splitter.Splitter.{Splitter}
 
 -- the first 40 bytes of a line, with one byte more

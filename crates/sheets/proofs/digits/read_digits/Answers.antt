@@ -1,7 +1,6 @@
 -- Each digit makes the run one longer and carries the number on; another byte, `most` or the text's end stops it.
 use Rattle.std.proofs.Common.{◌≡◌, ◌+◌, ◌-◌, ◌*◌, ◌^◌, ◌<◌, ◌≤◌, length, get_or, take, drop, sym, refl, ap, ◌∙◌, zero-add, arith, rules}
 use native.Mathlib.Nat.{pow-zero, pow-le-pow_right, sub-zero}
-use Rattle.std.proofs.lemmas.List.{take_all}
 use Rattle.std.proofs.lemmas.Bool.{lt-ltb, le-ltb}
 use Rattle.sheets.specs.Digits.{run, number_of, worth, is_digit}
 use Rattle.sheets.proofs.Numerals.{run_more, run_stop, run_none, run_end, number_more, power_more}
@@ -22,18 +21,18 @@ returns-then-digit-radix c =
     record { count = omega arith; value = c.loop-i.invariant.2 }
 
 -- with one digit more the number still fits
-below : (c : goal.Else-digit-radix) → c.loop-i.number * c.args.radix + c.digit-worth-digit.result < 2 ^ 64
+below : (c : goal.Else-digit-radix) → c.loop-i.number * c.args.radix + c.digit_worth-digit.result < 2 ^ 64
 below c =
-    let more = power_more c.args.radix c.loop-i.i c.loop-i.number c.digit-worth-digit.result c.loop-i.invariant.3 c.if-digit-radix.false in
+    let more = power_more c.args.radix c.loop-i.i c.loop-i.number c.digit_worth-digit.result c.loop-i.invariant.3 c.if-digit-radix.false in
     let step : c.loop-i.i + 1 ≤ c.args.most = omega arith in
     let most = pow-le-pow_right c.requires.1 step in
     omega arith
 
-pub overflow-mul-number : goal.overflow-mul-number
-overflow-mul-number c = let h = below c in search rules
+pub overflow_mul-number : goal.overflow_mul-number
+overflow_mul-number c = let h = below c in search rules
 
-pub overflow-add-number : goal.overflow-add-number
-overflow-add-number c = let h = below c in search rules
+pub overflow_add-number : goal.overflow_add-number
+overflow_add-number c = let h = below c in search rules
 
 pub loop-i-preserved : goal.loop-i-preserved
 loop-i-preserved c =
@@ -43,8 +42,8 @@ loop-i-preserved c =
     let more = run_more c.args.radix c.args.most text i c.if-i-most.false c.loop-i-test.true digit in
     let next = number_more c.args.radix text i c.loop-i-test.true in
     let was = c.loop-i.invariant.2 in
-    let worth-is = c.digit-worth-digit.ensures.answer in
-    (omega arith, omega arith, cc, power_more c.args.radix i c.loop-i.number c.digit-worth-digit.result c.loop-i.invariant.3 c.if-digit-radix.false)
+    let worth-is = c.digit_worth-digit.ensures.answer in
+    (omega arith, omega arith, cc, power_more c.args.radix i c.loop-i.number c.digit_worth-digit.result c.loop-i.invariant.3 c.if-digit-radix.false)
 
 pub returns : goal.returns
 returns c =

@@ -2,16 +2,16 @@
 use Rattle.std.proofs.Common.{◌≡◌, Some, None, inl, inr}
 use Rattle.sheets.proofs.reader.in_range.Goals as goal
 
-pub returns-in-default : goal.returns-in-default
-returns-in-default c =
-    let none : c.args.scanned.first ≡ None = c.in-default.is in
-    record { answer = λ line parts. inr (inl (parts.first_out none c.out-of-range.result c.out-of-range.ensures.answer)) }
+pub returns-in_default : goal.returns-in_default
+returns-in_default c =
+    let none : c.args.scanned.first ≡ None = c.in_default.is in
+    record { answer = λ line parts. inr (inl (parts.first_out none c.out_of_range.result c.out_of_range.ensures.answer)) }
 
-pub returns-in-default-second : goal.returns-in-default-second
-returns-in-default-second c =
+pub returns-in_default-second : goal.returns-in_default-second
+returns-in_default-second c =
     let some : c.args.scanned.first ≡ Some c.in-Some.first = c.in-Some.is in
-    let none : c.args.scanned.second ≡ None = c.in-default-second.is in
-    record { answer = λ line parts. inr (inr (parts.second-out c.in-Some.first some none c.out-of-range-in-default-second.result c.out-of-range-in-default-second.ensures.answer)) }
+    let none : c.args.scanned.second ≡ None = c.in_default-second.is in
+    record { answer = λ line parts. inr (inr (parts.second_out c.in-Some.first some none c.out_of_range-in_default-second.result c.out_of_range-in_default-second.ensures.answer)) }
 
 pub returns : goal.returns
 returns c =

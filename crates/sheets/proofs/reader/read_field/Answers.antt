@@ -1,5 +1,5 @@
 -- The letter decides the kind; another byte, or none, is no field.
-use Rattle.std.proofs.Common.{◌≡◌, ◌+◌, ◌<◌, ◌≤◌, length, get_or, drop, sym, refl, ap, ◌∙◌, arith, rules}
+use Rattle.std.proofs.Common.{sym, refl, ◌∙◌, arith}
 use Rattle.sheets.proofs.Leading.{no_field_past, no_field_at}
 use Rattle.sheets.proofs.reader.read_field.Goals as goal
 

@@ -1,6 +1,5 @@
 -- An equal byte is shared; the first other byte, or the end of either, stops it.
-use Rattle.std.proofs.Common.{◌≡◌, ◌+◌, ◌<◌, ◌≤◌, length, get_or, sym, refl, ap, ◌∙◌, arith, rules}
-use Rattle.sheets.specs.Forms.{shared}
+use Rattle.std.proofs.Common.{arith}
 use Rattle.sheets.proofs.Literals.{shared_more, shared_stop, shared_over, shared_past}
 use Rattle.sheets.proofs.reader.shared_front.Goals as goal
 

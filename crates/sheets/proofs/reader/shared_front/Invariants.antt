@@ -1,5 +1,5 @@
 -- The first i bytes are shared, and the rest decides how many more are.
-use Rattle.std.proofs.Common.{◌≡◌, ◌+◌, ◌≤◌, length, drop}
+use Rattle.std.proofs.Common.{◌≡◌, ◌+◌, drop}
 use Rattle.sheets.specs.Forms.{shared}
 use Rattle.sheets.proofs.reader.shared_front.Given as goal
 

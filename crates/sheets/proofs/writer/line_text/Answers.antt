@@ -1,28 +1,28 @@
 -- The word and the two fields, one behind the other.
-use Rattle.std.proofs.Common.{◌≡◌, ℕ, ◌+◌, ◌<◌, ◌≤◌, List, [], ◌∷◌, ◌++◌, length, sym, refl, ap, ◌∙◌, subst, arith, length-append}
+use Rattle.std.proofs.Common.{◌≡◌, ◌∷◌, ◌++◌, ap, ◌∙◌, arith}
 use Rattle.sheets.specs.Lines.{word_text, line_text}
 use Rattle.sheets.specs.Outputs.{text_of}
 use Rattle.sheets.proofs.Words.{word-put, first-room, second-room}
 use Rattle.sheets.proofs.Trips.{trip}
 use Rattle.sheets.proofs.writer.line_text.Goals as goal
 
-pub put-field-requires : goal.put-field-requires
-put-field-requires g c =
-    first-room c.args.word (text_of c.put-bytes.new.self) (word-put c.args.word (text_of c.new-text.result) c.word-bytes.result.now (text_of c.put-bytes.new.self) c.new-text.ensures.bytes c.word-bytes.ensures.bytes c.put-bytes.ensures.bytes)
+pub put_field-requires : goal.put_field-requires
+put_field-requires g c =
+    first-room c.args.word (text_of c.put_bytes.new.self) (word-put c.args.word (text_of c.new-text.result) c.word_bytes.result.now (text_of c.put_bytes.new.self) c.new-text.ensures.bytes c.word_bytes.ensures.bytes c.put_bytes.ensures.bytes)
 
-pub put-field-requires-2 : goal.put-field-requires-2
-put-field-requires-2 g c =
-    second-room c.args.word (text_of c.put-bytes.new.self) (text_of c.put-field.new.text) (g.K.Kind.letter ∷ g.K.Written.text c.args.first)
-    (word-put c.args.word (text_of c.new-text.result) c.word-bytes.result.now (text_of c.put-bytes.new.self) c.new-text.ensures.bytes c.word-bytes.ensures.bytes c.put-bytes.ensures.bytes)
-    c.put-field.ensures.bytes (let h = c.put-field.ensures.limits in omega arith)
+pub put_field-requires-2 : goal.put_field-requires-2
+put_field-requires-2 g c =
+    second-room c.args.word (text_of c.put_bytes.new.self) (text_of c.put_field.new.text) (g.K.Kind.letter ∷ g.K.Written.text c.args.first)
+    (word-put c.args.word (text_of c.new-text.result) c.word_bytes.result.now (text_of c.put_bytes.new.self) c.new-text.ensures.bytes c.word_bytes.ensures.bytes c.put_bytes.ensures.bytes)
+    c.put_field.ensures.bytes (let h = c.put_field.ensures.limits in omega arith)
 
 pub returns : goal.returns
 returns g c =
-    let word = word-put c.args.word (text_of c.new-text.result) c.word-bytes.result.now (text_of c.put-bytes.new.self) c.new-text.ensures.bytes c.word-bytes.ensures.bytes c.put-bytes.ensures.bytes in
+    let word = word-put c.args.word (text_of c.new-text.result) c.word_bytes.result.now (text_of c.put_bytes.new.self) c.new-text.ensures.bytes c.word_bytes.ensures.bytes c.put_bytes.ensures.bytes in
     let first = g.K.Kind.letter ∷ g.K.Written.text c.args.first in
     let second = g.L.Kind.letter ∷ g.L.Written.text c.args.second in
-    let whole : text_of c.put-field-2.new.text ≡ line_text (word_text c.args.word) first second = c.put-field-2.ensures.bytes ∙ ap (λ t. t ++ (9 ∷ second)) (c.put-field.ensures.bytes ∙ ap (λ t. t ++ (9 ∷ first)) word) in
+    let whole : text_of c.put_field-2.new.text ≡ line_text (word_text c.args.word) first second = c.put_field-2.ensures.bytes ∙ ap (λ t. t ++ (9 ∷ second)) (c.put_field.ensures.bytes ∙ ap (λ t. t ++ (9 ∷ first)) word) in
     record {
       bytes = whole;
-      law = trip c.args.word g.K.Kind.letter g.L.Kind.letter (g.K.Written.text c.args.first) (g.L.Written.text c.args.second) (λ f. g.K.Written.holds f c.args.first) (λ f. g.L.Written.holds f c.args.second) c.put-field.ensures.law c.put-field-2.ensures.law;
+      law = trip c.args.word g.K.Kind.letter g.L.Kind.letter (g.K.Written.text c.args.first) (g.L.Written.text c.args.second) (λ f. g.K.Written.holds f c.args.first) (λ f. g.L.Written.holds f c.args.second) c.put_field.ensures.law c.put_field-2.ensures.law;
     }

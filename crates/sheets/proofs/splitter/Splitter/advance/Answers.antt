@@ -1,21 +1,21 @@
 -- Up to the line feed, or the whole chunk.
-use Rattle.std.proofs.Common.{◌≡◌, ◌+◌, ◌-◌, ◌<◌, ◌≤◌, min, true, false, [], ◌∷◌, ◌++◌, length, take, sym, refl, ap, ◌∙◌, subst, arith, rules}
+use Rattle.std.proofs.Common.{◌≡◌, ◌+◌, ◌-◌, false, [], ◌∷◌, ◌++◌, take, sym, refl, ap, ◌∙◌, arith}
 use native.Mathlib.Nat.{sub-zero}
 use Rattle.std.proofs.lemmas.Bool.{cond-false}
 use Rattle.sheets.specs.Splitting.{feed_at, held, current, ended, begun, Took}
 use Rattle.sheets.proofs.Chunks.{before_feed, feed_within, feed_lines, fed_line, held-short, took_after, parting}
 use Rattle.sheets.proofs.splitter.Splitter.advance.Goals as goal
 
-pub slice-bounds-keep-end : goal.slice-bounds-keep-end
-slice-bounds-keep-end c = let h = feed_within c.args.chunk.now in omega arith
+pub slice_bounds-keep-end : goal.slice_bounds-keep-end
+slice_bounds-keep-end c = let h = feed_within c.args.chunk.now in omega arith
 
 pub returns-then-at-chunk : goal.returns-then-at-chunk
 returns-then-at-chunk c =
     let before = c.args.self.now in
     let chunk = c.args.chunk.now in
-    let at = c.line-feed-at-at.result in
+    let at = c.line_feed_at-at.result in
     let kept = c.keep.new.self in
-    let at-is : at ≡ feed_at chunk = c.line-feed-at-at.ensures.answer in
+    let at-is : at ≡ feed_at chunk = c.line_feed_at-at.ensures.answer in
     let kept-is : held kept ≡ take 40 (current before ++ take (feed_at chunk) chunk) = c.keep.ensures.bytes ∙ ap (λ l. take 40 (l ++ take (at - 0) chunk)) c.begin.ensures.bytes ∙ ap (λ n. take 40 (current before ++ take n chunk)) (sub-zero at ∙ at-is) in
     let short = held-short before before.fits in
     let fed = feed_lines (current before) chunk (held kept) short (omega arith) kept-is in
@@ -30,9 +30,9 @@ pub returns : goal.returns
 returns c =
     let before = c.args.self.now in
     let chunk = c.args.chunk.now in
-    let at = c.line-feed-at-at.result in
+    let at = c.line_feed_at-at.result in
     let kept = c.keep.new.self in
-    let at-is : at ≡ feed_at chunk = c.line-feed-at-at.ensures.answer in
+    let at-is : at ≡ feed_at chunk = c.line_feed_at-at.ensures.answer in
     let kept-is : held kept ≡ take 40 (current before ++ take (feed_at chunk) chunk) = c.keep.ensures.bytes ∙ ap (λ l. take 40 (l ++ take (at - 0) chunk)) c.begin.ensures.bytes ∙ ap (λ n. take 40 (current before ++ take n chunk)) (sub-zero at ∙ at-is) in
     let short = held-short before before.fits in
     let fed = before_feed (current before) chunk short in

@@ -1,5 +1,5 @@
 -- The bytes for which there is room go behind the line.
-use Rattle.std.proofs.Common.{◌≡◌, ◌+◌, ◌-◌, ◌<◌, ◌≤◌, min, [], ◌∷◌, ◌++◌, length, take, sym, refl, ap, ◌∙◌, subst, arith, rules}
+use Rattle.std.proofs.Common.{◌≡◌, ◌+◌, ◌-◌, min, ◌++◌, length, take, sym, refl, ap, ◌∙◌, arith, rules}
 use native.Mathlib.Nat.{sub-zero}
 use Rattle.std.proofs.lemmas.List.{length-take-le}
 use Rattle.std.proofs.lemmas.Slice.{take-put_mid}
@@ -14,10 +14,10 @@ returns c =
     let room : length s.bytes ≡ 40 = search rules in
     let len : length (held s) ≡ s.len = length-take-le s.len s.bytes (omega arith) in
     let n-is = c.min-n.ensures in
-    let copied = c.copy-from-slice.ensures.after in
+    let copied = c.copy_from_slice.ensures.after in
     let clip = take_clip 40 (held s) more (omega arith) in
     let n = c.min-n.result in
-    let part = c.copy-from-slice.new.self in
+    let part = c.copy_from_slice.new.self in
     let part-is : part ≡ take n more = copied ∙ ap (λ k. take k more) (sub-zero n) in
     let part-len : length part ≡ n = ap length part-is ∙ length-take-le n more (omega arith) in
     let front = take-put_mid s.len (s.len + n - s.len) s.bytes part (s.len + n) (omega arith) (omega arith) in

@@ -1,5 +1,5 @@
 -- The text goes to the front; what stood behind stays.
-use Rattle.std.proofs.Common.{◌≡◌, ◌<◌, ◌≤◌, length, take, sym, refl, ap, ◌∙◌, arith, rules}
+use Rattle.std.proofs.Common.{◌≡◌, length, sym, refl, arith, rules}
 use native.Mathlib.Nat.{sub-zero}
 use Rattle.std.proofs.lemmas.List.{length-take-le}
 use Rattle.sheets.specs.Outputs.{text_of}
@@ -16,7 +16,7 @@ pub returns : goal.returns
 returns c =
     let room : length c.args.self.now.bytes ≡ 80 = search rules in
     let is-len : length (text_of c.args.self.now) ≡ c.args.self.now.len = length-take-le c.args.self.now.len c.args.self.now.bytes (omega arith) in
-    let copied = c.copy-from-slice.ensures.after in
+    let copied = c.copy_from_slice.ensures.after in
     let whole = handed_fits (text_of c.args.self.now) c.args.out.now (omega arith) in
     let no_less = sub-zero c.args.self.now.len in
     record { answer = (omega arith, omega arith); bytes = cc }

@@ -1,5 +1,5 @@
 -- A byte more, or none where the text is full.
-use Rattle.std.proofs.Common.{◌≡◌, ◌+◌, ◌<◌, ◌≤◌, [], ◌∷◌, length, take, sym, refl, ap, ◌∙◌, arith, rules}
+use Rattle.std.proofs.Common.{◌≡◌, [], ◌∷◌, length, sym, ◌∙◌, arith, rules}
 use Rattle.std.proofs.lemmas.List.{length-take-le, take_more_set}
 use Rattle.sheets.specs.Outputs.{text_of}
 use Rattle.sheets.proofs.Outputs.{put_fits, put_full}

@@ -1,5 +1,5 @@
 -- Byte after byte, once there is room for all.
-use Rattle.std.proofs.Common.{◌≡◌, ◌+◌, ◌<◌, ◌≤◌, [], ◌∷◌, ◌++◌, length, get_or, take, sym, refl, ap, ◌∙◌, append_assoc, arith, length-append, rules}
+use Rattle.std.proofs.Common.{◌≡◌, ◌+◌, [], ◌∷◌, ◌++◌, length, get_or, take, sym, ap, ◌∙◌, append_assoc, arith, length-append, rules}
 use Rattle.std.proofs.lemmas.List.{length-take-le, take_more, take_all, append-nil}
 use Rattle.sheets.specs.Outputs.{text_of, put}
 use Rattle.sheets.proofs.Outputs.{put_fits, put_full}
@@ -27,7 +27,7 @@ loop-byte-preserved c =
     let more = take_more bytes i 0 c.loop-byte-test.true in
     let group = append_assoc (text_of c.args.self.now) (take i bytes) (b ∷ []) in
     let was = c.loop-byte.invariant in
-    let now-is = c.put-byte.ensures.bytes in
+    let now-is = c.put_byte.ensures.bytes in
     cc
 
 pub returns : goal.returns

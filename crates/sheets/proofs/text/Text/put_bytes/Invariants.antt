@@ -1,5 +1,5 @@
 -- The bytes so far stand behind the text.
-use Rattle.std.proofs.Common.{◌≡◌, ◌+◌, ◌≤◌, ◌++◌, length, take}
+use Rattle.std.proofs.Common.{◌≡◌, ◌++◌, take}
 use Rattle.sheets.specs.Outputs.{text_of}
 use Rattle.sheets.proofs.text.Text.put_bytes.Given as goal
 

@@ -1,5 +1,5 @@
 -- The digits of `left` are still to be written, before those that stand at the end already.
-use Rattle.std.proofs.Common.{◌≡◌, ◌+◌, ◌-◌, ◌≤◌, ◌++◌, length, drop}
+use Rattle.std.proofs.Common.{◌≡◌, ◌-◌, ◌++◌, length, drop}
 use Rattle.sheets.specs.Digits.{last_digits}
 use Rattle.sheets.proofs.text.Text.put_digits.Given as goal
 

@@ -1,5 +1,5 @@
 -- Each division by ten takes one digit away.
-use Rattle.std.proofs.Common.{◌≡◌, ◌+◌, ◌/◌, ◌%◌, ◌^◌, ◌<◌, ◌≤◌, [], ◌∷◌, length, decimal, sym, refl, ap, ◌∙◌, arith, lit<, lit≤, rules}
+use Rattle.std.proofs.Common.{◌≡◌, ◌+◌, ◌/◌, ◌%◌, length, decimal, ap, ◌∙◌, arith, lit<}
 use Rattle.std.proofs.lemmas.List.{length_push}
 use Rattle.std.proofs.lemmas.Fmt.{decimal_digit, decimal_step, decimal_nonempty, length-decimal-le}
 use Rattle.sheets.proofs.text.compose.decimal_len.Goals as goal
