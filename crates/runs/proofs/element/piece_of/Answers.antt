@@ -5,8 +5,8 @@ use Rattle.runs.proofs.element.piece_of.Goals as goal
 pub returns : goal.returns
 returns g c =
     record {
-      answer = piece_accepted (g.K.Kind.value c.args.first) (g.L.Kind.value c.args.second) c.args.p c.args.q c.in-ok-first.first c.in-ok-second.second c.times.result
-          c.in-ok-first.ensures.answer
-          c.in-ok-second.ensures.answer
+      answer = piece_accepted (g.K.Kind.value c.args.first) (g.L.Kind.value c.args.second) c.args.p c.args.q c.in_ok-first.first c.in_ok-second.second c.times.result
+          c.in_ok-first.ensures.answer
+          c.in_ok-second.ensures.answer
           c.times.ensures.value;
     }

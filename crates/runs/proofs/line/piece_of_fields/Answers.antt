@@ -16,9 +16,9 @@ returns-in-Pattern c =
     let q = place_of c.args.second in
     record {
       answer = λ w v.
-          subst (λ (f : Field). PieceOf (field_value (field_text f)) (place_of f) y q c.piece-with.result) (sym i.is)
-          (subst (λ (x : Option ℤ). PieceOf x i.place y q c.piece-with.result)
-          (sym (pattern_field i.element i.digits.now fits.fits (subst Writes i.is w))) (c.piece-with.ensures.answer v));
+          subst (λ (f : Field). PieceOf (field_value (field_text f)) (place_of f) y q c.piece_with.result) (sym i.is)
+          (subst (λ (x : Option ℤ). PieceOf x i.place y q c.piece_with.result)
+          (sym (pattern_field i.element i.digits.now fits.fits (subst Writes i.is w))) (c.piece_with.ensures.answer v));
     }
 
 pub returns-in-Count : goal.returns-in-Count
@@ -29,7 +29,7 @@ returns-in-Count c =
     let fits : SFits w32 i.element = search rules in
     record {
       answer = λ w v.
-          subst (λ (f : Field). PieceOf (field_value (field_text f)) (place_of f) y q c.piece-with-in-Count.result) (sym i.is)
-          (subst (λ (x : Option ℤ). PieceOf x i.place y q c.piece-with-in-Count.result)
-          (sym (count_field i.element i.digits.now fits (subst Writes i.is w))) (simp to_z-of_z at (c.piece-with-in-Count.ensures.answer v)));
+          subst (λ (f : Field). PieceOf (field_value (field_text f)) (place_of f) y q c.piece_with-in-Count.result) (sym i.is)
+          (subst (λ (x : Option ℤ). PieceOf x i.place y q c.piece_with-in-Count.result)
+          (sym (count_field i.element i.digits.now fits (subst Writes i.is w))) (simp to_z-of_z at (c.piece_with-in-Count.ensures.answer v)));
     }

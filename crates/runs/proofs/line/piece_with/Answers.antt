@@ -14,9 +14,9 @@ returns-in-Pattern g c =
     let fits : Fits w64 i.element = search rules in
     record {
       answer = λ w.
-          subst (λ (f : Field). PieceOf (g.K.Kind.value c.args.first) c.args.p (field_value (field_text f)) (place_of f) c.piece-of.result) (sym i.is)
-          (subst (λ (v : Option ℤ). PieceOf (g.K.Kind.value c.args.first) c.args.p v i.place c.piece-of.result)
-          (sym (pattern_field i.element i.digits.now fits.fits (subst Writes i.is w))) c.piece-of.ensures.answer);
+          subst (λ (f : Field). PieceOf (g.K.Kind.value c.args.first) c.args.p (field_value (field_text f)) (place_of f) c.piece_of.result) (sym i.is)
+          (subst (λ (v : Option ℤ). PieceOf (g.K.Kind.value c.args.first) c.args.p v i.place c.piece_of.result)
+          (sym (pattern_field i.element i.digits.now fits.fits (subst Writes i.is w))) c.piece_of.ensures.answer);
     }
 
 pub returns-in-Count : goal.returns-in-Count
@@ -25,7 +25,7 @@ returns-in-Count g c =
     let fits : SFits w32 i.element = search rules in
     record {
       answer = λ w.
-          subst (λ (f : Field). PieceOf (g.K.Kind.value c.args.first) c.args.p (field_value (field_text f)) (place_of f) c.piece-of-in-Count.result) (sym i.is)
-          (subst (λ (v : Option ℤ). PieceOf (g.K.Kind.value c.args.first) c.args.p v i.place c.piece-of-in-Count.result)
-          (sym (count_field i.element i.digits.now fits (subst Writes i.is w))) (simp to_z-of_z at c.piece-of-in-Count.ensures.answer));
+          subst (λ (f : Field). PieceOf (g.K.Kind.value c.args.first) c.args.p (field_value (field_text f)) (place_of f) c.piece_of-in-Count.result) (sym i.is)
+          (subst (λ (v : Option ℤ). PieceOf (g.K.Kind.value c.args.first) c.args.p v i.place c.piece_of-in-Count.result)
+          (sym (count_field i.element i.digits.now fits (subst Writes i.is w))) (simp to_z-of_z at c.piece_of-in-Count.ensures.answer));
     }

@@ -24,9 +24,9 @@ loop-leg-preserved g c =
     let count = g.C.Condenser.count in
     let split = next_leg queue l.leg-index nothing (omega arith) in
     let before = subst (λ (left : List ValueCall). Resumes cap total count (calls_of queue) [] c.args.answers.now 0 left l.run.condenser l.answers l.next) split l.invariant in
-    let after = resumes_on cap total count (calls_of queue) [] c.args.answers.now 0 _ rest l.run.condenser c.play-calls-next.new.run.condenser l.answers c.play-calls-next.new.answers l.next c.play-calls-next.result
-    before (c.play-calls-next.ensures.after before.now_in rest before.holds) in
-    subst (λ x. Resumes cap total count (calls_of queue) [] c.args.answers.now 0 rest x c.play-calls-next.new.answers c.play-calls-next.result)
+    let after = resumes_on cap total count (calls_of queue) [] c.args.answers.now 0 _ rest l.run.condenser c.play_calls-next.new.run.condenser l.answers c.play_calls-next.new.answers l.next c.play_calls-next.result
+    before (c.play_calls-next.ensures.after before.now_in rest before.holds) in
+    subst (λ x. Resumes cap total count (calls_of queue) [] c.args.answers.now 0 rest x c.play_calls-next.new.answers c.play_calls-next.result)
     (sym (c.resume-run.ensures.unchanged ∙ c.seal-sealed.ensures.unchanged)) after
 
 pub returns : goal.returns

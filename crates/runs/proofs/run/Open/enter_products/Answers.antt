@@ -5,14 +5,14 @@ use Rattle.runs.specs.Calls.{Outcome, Says, slices_outcome, product_entries}
 use Rattle.runs.proofs.Elements.{says_ok, slices-accepted, refused_after, accepted_after}
 use Rattle.runs.proofs.run.Open.enter_products.Goals as goal
 
-pub returns-in-err-check-slices : goal.returns-in-err-check-slices
-returns-in-err-check-slices g c =
-    let p = err_from_is_err_and c.from-residual.result c.from-residual.ensures.1 in
-    let e = c.in-err-check-slices.field-0.0 in
+pub returns-in_err-check_slices : goal.returns-in_err-check_slices
+returns-in_err-check_slices g c =
+    let p = err_from_is_err_and c.from_residual.result c.from_residual.ensures.1 in
+    let e = c.in_err-check_slices.field-0.0 in
     let xs = map g.K.Kind.value c.args.firsts.now in
     let ys = map g.L.Kind.value c.args.seconds.now in
-    let is = ap₂ (λ (m n : ℕ). slices_outcome m n xs ys) c.put-limit.ensures.answer c.put-count.ensures.answer in
-    let said = subst (λ (o : Outcome). Says o (Err e)) is c.in-err-check-slices.ensures.answer in
+    let is = ap₂ (λ (m n : ℕ). slices_outcome m n xs ys) c.put_limit.ensures.answer c.put_count.ensures.answer in
+    let said = subst (λ (o : Outcome). Says o (Err e)) is c.in_err-check_slices.ensures.answer in
     rw (p.1, p.2)
     (record {
       call = record {
@@ -21,12 +21,12 @@ returns-in-err-check-slices g c =
       };
     })
 
-pub put-products-requires : goal.put-products-requires
-put-products-requires g c =
+pub put_products-requires : goal.put_products-requires
+put_products-requires g c =
     let xs = map g.K.Kind.value c.args.firsts.now in
     let ys = map g.L.Kind.value c.args.seconds.now in
-    let is = ap₂ (λ (m n : ℕ). slices_outcome m n xs ys) c.put-limit.ensures.answer c.put-count.ensures.answer in
-    let said = subst (λ (o : Outcome). Says o (Ok tt)) is c.in-ok-check-slices.ensures.answer in
+    let is = ap₂ (λ (m n : ℕ). slices_outcome m n xs ys) c.put_limit.ensures.answer c.put_count.ensures.answer in
+    let said = subst (λ (o : Outcome). Says o (Ok tt)) is c.in_ok-check_slices.ensures.answer in
     let all = slices-accepted g.K.Kind.value g.L.Kind.value g.C.Condenser.capacity (g.C.Condenser.count c.args.self.now.condenser) c.args.firsts.now c.args.seconds.now (g.met.C.Condenser.count_within c.args.self.now.condenser) (says_ok _ tt said) in
     record { same = all.0; room = all.1; sound = all.2 }
 
@@ -34,11 +34,11 @@ pub returns : goal.returns
 returns g c =
     let xs = map g.K.Kind.value c.args.firsts.now in
     let ys = map g.L.Kind.value c.args.seconds.now in
-    let is = ap₂ (λ (m n : ℕ). slices_outcome m n xs ys) c.put-limit.ensures.answer c.put-count.ensures.answer in
-    let said = says_ok _ tt (subst (λ (o : Outcome). Says o (Ok tt)) is c.in-ok-check-slices.ensures.answer) in
+    let is = ap₂ (λ (m n : ℕ). slices_outcome m n xs ys) c.put_limit.ensures.answer c.put_count.ensures.answer in
+    let said = says_ok _ tt (subst (λ (o : Outcome). Says o (Ok tt)) is c.in_ok-check_slices.ensures.answer) in
     record {
       call = record {
-        answer = subst (λ (o : Outcome). Says o c.put-products.result) (sym said) c.put-products.ensures.answer;
-        after_is = accepted_after g.C.Condenser.total g.C.Condenser.count c.args.self.now.condenser _ (product_entries c.args.withdrawn xs ys) _ said c.put-products.ensures.after;
+        answer = subst (λ (o : Outcome). Says o c.put_products.result) (sym said) c.put_products.ensures.answer;
+        after_is = accepted_after g.C.Condenser.total g.C.Condenser.count c.args.self.now.condenser _ (product_entries c.args.withdrawn xs ys) _ said c.put_products.ensures.after;
       };
     }

@@ -8,48 +8,48 @@ use Rattle.runs.proofs.Entering.{made-misread, made-full, made_unfit, made-enter
 use Rattle.runs.proofs.LineTexts.{line_refused, line-accepted}
 use Rattle.runs.proofs.run.Open.enter_text.Goals as goal
 
-pub returns-in-err-word : goal.returns-in-err-word
-returns-in-err-word g c =
-    let p = err_from_is_err_and c.from-residual.result c.from-residual.ensures.1 in
-    let e = c.in-err-word.field-0.0 in
-    let m = line_refused c.args.line.now e c.in-err-word.ensures.answer in
+pub returns-in_err-word : goal.returns-in_err-word
+returns-in_err-word g c =
+    let p = err_from_is_err_and c.from_residual.result c.from_residual.ensures.1 in
+    let e = c.in_err-word.field-0.0 in
+    let m = line_refused c.args.line.now e c.in_err-word.ensures.answer in
     rw (p.1, p.2)
     (record {
       call = made-misread g.C.Condenser.capacity g.C.Condenser.total g.C.Condenser.count c.args.self.now.condenser (line_reading c.args.line.now) e m.code m.place m.side m.reading m.refused_so;
     })
 
-pub returns-in-err-check-room : goal.returns-in-err-check-room
-returns-in-err-check-room g c =
-    let p = err_from_is_err_and c.from-residual-in-err-check-room.result c.from-residual-in-err-check-room.ensures.1 in
-    let e = c.in-err-check-room.field-0.0 in
-    let reading = line-accepted c.args.line.now c.in-ok-word.field-0 c.in-ok-word.ensures.answer in
-    let is = ap₂ (λ (m n : ℕ). room_outcome m n 1) c.put-limit.ensures.answer c.put-count.ensures.answer in
-    let said = subst (λ (o : Outcome). Says o (Err e)) is c.in-err-check-room.ensures.answer in
+pub returns-in_err-check_room : goal.returns-in_err-check_room
+returns-in_err-check_room g c =
+    let p = err_from_is_err_and c.from_residual-in_err-check_room.result c.from_residual-in_err-check_room.ensures.1 in
+    let e = c.in_err-check_room.field-0.0 in
+    let reading = line-accepted c.args.line.now c.in_ok-word.field-0 c.in_ok-word.ensures.answer in
+    let is = ap₂ (λ (m n : ℕ). room_outcome m n 1) c.put_limit.ensures.answer c.put_count.ensures.answer in
+    let said = subst (λ (o : Outcome). Says o (Err e)) is c.in_err-check_room.ensures.answer in
     rw (p.1, p.2)
     (record { call = made-full g.C.Condenser.capacity g.C.Condenser.total g.C.Condenser.count c.args.self.now.condenser (line_reading c.args.line.now) _ _ _ _ _ reading e said })
 
-pub returns-in-err-piece : goal.returns-in-err-piece
-returns-in-err-piece g c =
-    let p = err_from_is_err_and c.from-residual-in-err-piece.result c.from-residual-in-err-piece.ensures.1 in
-    let e = c.in-err-piece.field-0.0 in
-    let l = c.in-ok-word.ensures.answer in
-    let reading = line-accepted c.args.line.now c.in-ok-word.field-0 l in
-    let is = ap₂ (λ (m n : ℕ). room_outcome m n 1) c.put-limit.ensures.answer c.put-count.ensures.answer in
-    let room = says_ok _ tt (subst (λ (o : Outcome). Says o (Ok tt)) is c.in-ok-check-room.ensures.answer) in
+pub returns-in_err-piece : goal.returns-in_err-piece
+returns-in_err-piece g c =
+    let p = err_from_is_err_and c.from_residual-in_err-piece.result c.from_residual-in_err-piece.ensures.1 in
+    let e = c.in_err-piece.field-0.0 in
+    let l = c.in_ok-word.ensures.answer in
+    let reading = line-accepted c.args.line.now c.in_ok-word.field-0 l in
+    let is = ap₂ (λ (m n : ℕ). room_outcome m n 1) c.put_limit.ensures.answer c.put_count.ensures.answer in
+    let room = says_ok _ tt (subst (λ (o : Outcome). Says o (Ok tt)) is c.in_ok-check_room.ensures.answer) in
     rw (p.1, p.2)
     (record {
       call = made_unfit g.C.Condenser.capacity g.C.Condenser.total g.C.Condenser.count c.args.self.now.condenser (line_reading c.args.line.now) _ _ _ _ _ reading e room
-          (c.in-err-piece.ensures.answer l.first_is.writes l.second-is.writes);
+          (c.in_err-piece.ensures.answer l.first_is.writes l.second_is.writes);
     })
 
 pub returns : goal.returns
 returns g c =
-    let l = c.in-ok-word.ensures.answer in
-    let reading = line-accepted c.args.line.now c.in-ok-word.field-0 l in
-    let is = ap₂ (λ (m n : ℕ). room_outcome m n 1) c.put-limit.ensures.answer c.put-count.ensures.answer in
-    let room = says_ok _ tt (subst (λ (o : Outcome). Says o (Ok tt)) is c.in-ok-check-room.ensures.answer) in
-    let made = c.in-ok-piece.ensures.answer l.first_is.writes l.second-is.writes in
-    let value = c.entering.ensures.value ∙ ap₂ (λ (w : Bool) (v : ℤ). cond w (neg_ℤ v) v) c.is-withdrawn.ensures.answer made.1 in
+    let l = c.in_ok-word.ensures.answer in
+    let reading = line-accepted c.args.line.now c.in_ok-word.field-0 l in
+    let is = ap₂ (λ (m n : ℕ). room_outcome m n 1) c.put_limit.ensures.answer c.put_count.ensures.answer in
+    let room = says_ok _ tt (subst (λ (o : Outcome). Says o (Ok tt)) is c.in_ok-check_room.ensures.answer) in
+    let made = c.in_ok-piece.ensures.answer l.first_is.writes l.second_is.writes in
+    let value = c.entering.ensures.value ∙ ap₂ (λ (w : Bool) (v : ℤ). cond w (neg_ℤ v) v) c.is_withdrawn.ensures.answer made.1 in
     record {
       call = made-entered g.C.Condenser.capacity g.C.Condenser.total g.C.Condenser.count c.args.self.now.condenser (line_reading c.args.line.now) _ _ _ _ _ reading
           c.put.new.self c.entering.result c.put.result (g.met.C.Condenser.count_within c.args.self.now.condenser) room made.0 value c.put.ensures.answer c.put.ensures.after;

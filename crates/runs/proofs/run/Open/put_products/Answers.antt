@@ -4,17 +4,17 @@ use lib.IntN.{+ℤ_idr}
 use Rattle.runs.proofs.Elements.{not_both, elements_turn, entries_step, entries_end, entries_count, put_turn}
 use Rattle.runs.proofs.run.Open.put_products.Goals as goal
 
-pub returns-in-err-piece : goal.returns-in-err-piece
-returns-in-err-piece g c =
+pub returns-in_err-piece : goal.returns-in_err-piece
+returns-in_err-piece g c =
     let i = c.loop-i.i in
     let hx : i < length c.args.firsts.now = omega arith in
     let hy : i < length c.args.seconds.now = omega arith in
     let turn = elements_turn g.K.Kind.value g.L.Kind.value c.args.firsts.now c.args.seconds.now i c.index-firsts-i.result c.index-seconds-i.result hx hy c.index-firsts-i.is c.index-seconds-i.is c.loop-i.invariant.0 in
-    absurd (not_both _ c.in-err-piece.field-0.0 turn.0 c.in-err-piece.ensures.answer)
+    absurd (not_both _ c.in_err-piece.field-0.0 turn.0 c.in_err-piece.ensures.answer)
 
-pub returns-in-err-put : goal.returns-in-err-put
-returns-in-err-put g c =
-    let full = c.in-err-put.ensures.answer.0 in
+pub returns-in_err-put : goal.returns-in_err-put
+returns-in_err-put g c =
+    let full = c.in_err-put.ensures.answer.0 in
     absurd (omega (arith, full, c.loop-i.invariant.2, c.requires.room))
 
 pub loop-i-preserved : goal.loop-i-preserved
@@ -25,8 +25,8 @@ loop-i-preserved g c =
     let hy : i < length c.args.seconds.now = omega arith in
     let turn = elements_turn g.K.Kind.value g.L.Kind.value c.args.firsts.now c.args.seconds.now i c.index-firsts-i.result c.index-seconds-i.result hx hy c.index-firsts-i.is c.index-seconds-i.is c.loop-i.invariant.0 in
     let step = entries_step g.K.Kind.value g.L.Kind.value w c.args.firsts.now c.args.seconds.now i c.index-firsts-i.result c.index-seconds-i.result hx hy c.index-firsts-i.is c.index-seconds-i.is in
-    let put = c.in-ok-put.ensures.after in
-    let value = c.entering.ensures.value ∙ ap (λ (v : ℤ). cond w (neg_ℤ v) v) c.in-ok-piece.ensures.answer.1 in (
+    let put = c.in_ok-put.ensures.after in
+    let value = c.entering.ensures.value ∙ ap (λ (v : ℤ). cond w (neg_ℤ v) v) c.in_ok-piece.ensures.answer.1 in (
       turn.1,
       put_turn (g.C.Condenser.total c.loop-i.self.condenser) _ _ _ _ _ put.0 value (ap (λ (x : ℤ). g.C.Condenser.total c.loop-i.self.condenser +ℤ x) (sym step) ∙ c.loop-i.invariant.1),
       omega (arith, put.1, c.loop-i.invariant.2),
