@@ -1,5 +1,5 @@
 -- Reports that are put one behind the other into a slice. Assumes nothing.
-use Rattle.std.proofs.Common.{◌≡◌, ℕ, suc, ◌+◌, ◌-◌, ◌^◌, ◌<◌, ◌≤◌, min, Bool, true, false, cond, eqb, leb, List, [], ◌∷◌, ◌++◌, length, take, drop, Option, sym, refl, ap, ◌∙◌, subst, ap₂, append_assoc, append-nil, arith, length-append, length-drop, length-take, leb-false, leb-true}
+use Rattle.std.proofs.Common.{◌≡◌, ℕ, suc, ◌+◌, ◌-◌, ◌^◌, ◌<◌, ◌≤◌, min, Bool, true, false, cond, eqb, leb, List, [], ◌∷◌, ◌++◌, length, take, drop, sym, refl, ap, ◌∙◌, subst, ap₂, append_assoc, append-nil, arith, length-append, length-drop, length-take, leb-false, leb-true}
 use lib.Seq.{take-append_seam, drop-append_seam}
 use lib.Ieee.{binary64}
 use borrow.Rule.Slice.PartMut.{put_mid}
@@ -12,7 +12,7 @@ use Rattle.sheets.specs.Splitting.{ended, longer, sheet_lines}
 use Rattle.sheets.proofs.Outputs.{handed_fits, handed-short}
 use Rattle.reports.specs.declared.sheet.RefusedLine.{RefusedLine}
 use Rattle.runs.specs.Bags.{exact_sum}
-use Rattle.reports.specs.InMemory.{refused_reports, SheetReport, told, Filled, Appends}
+use Rattle.reports.specs.InMemory.{refused_reports, SheetReport, Filled, Appends}
 use Rattle.reports.specs.Sheets.{refusals, lines_bag}
 use Rattle.reports.proofs.Standing.{left_is}
 

@@ -1,11 +1,11 @@
 -- A sheet's run holds the bag of its lines, and each refused line is found under its number. Assumes nothing.
-use Rattle.std.proofs.Common.{◌≡◌, ℕ, zero, suc, ◌+◌, ◌-◌, ◌^◌, ◌<◌, ◌≤◌, Bool, true, false, cond, List, [], ◌∷◌, ◌++◌, map, length, take, drop, ℤ, Some, None, Ok, Err, Option, Result, sym, refl, ap, ◌∙◌, subst, ap₂, append_assoc, append-nil, add_assoc, add_comm, arith, length-append, length-drop, take_all, take-add}
+use Rattle.std.proofs.Common.{◌≡◌, ℕ, zero, suc, ◌+◌, ◌-◌, ◌^◌, ◌<◌, Bool, true, false, cond, List, [], ◌∷◌, ◌++◌, map, length, take, drop, ℤ, Some, None, Ok, Err, Option, sym, refl, ap, ◌∙◌, subst, append_assoc, append-nil, add_comm, arith, length-append, length-drop, take_all, take-add}
 use mathlib.Core.List.{map-append}
 use Rattle.std.proofs.lemmas.Bool.{cond-true, cond-false}
 use Rattle.numbers.specs.declared.refusal.Refusal.{Refusal}
 use Rattle.numbers.specs.Refusals.{code_of}
 use Rattle.sheets.specs.declared.splitter.Splitter.{Splitter}
-use Rattle.sheets.specs.Splitting.{ended, begun, held, current, last, sheet_lines, yielded, Took, After}
+use Rattle.sheets.specs.Splitting.{ended, held, current, last, sheet_lines, yielded, Took, After}
 use Rattle.sheets.proofs.Chunks.{ended_join}
 use Rattle.runs.specs.Bags.{Entry}
 use Rattle.runs.specs.Calls.{Outcome, accepted, refused, Says, ValueCall, call_outcome, Made}

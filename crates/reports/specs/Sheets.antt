@@ -6,11 +6,11 @@ use Rattle.readings.specs.declared.forms.Direction.TheVariants.{Nearest}
 use Rattle.readings.specs.Rounding.{Rounds}
 use Rattle.sheets.specs.Outputs.{Fits, handed}
 use Rattle.sheets.specs.Reports.{sum_report}
-use Rattle.sheets.specs.Splitting.{ended, sheet_lines, After}
+use Rattle.sheets.specs.Splitting.{ended, After}
 use Rattle.runs.specs.Bags.{Entry}
 use Rattle.runs.specs.Calls.{Outcome, accepted, refused, ValueCall, sheet_line, call_outcome}
 use Rattle.runs.specs.Lines.{line_reading}
-use Rattle.runs.specs.Queues.{bag_after, bag_from, bag_of, Holds}
+use Rattle.runs.specs.Queues.{bag_after, bag_of, Holds}
 use Rattle.reports.specs.declared.sheet.RefusedLine.{RefusedLine}
 use Rattle.reports.specs.declared.sheet.Sheet.{Sheet}
 

@@ -1,5 +1,5 @@
 -- Elements: how the answer of a kind settles the outcome of an element, and of the elements of two slices. Assumes nothing.
-use Rattle.std.proofs.Common.{◌≡◌, ℕ, zero, suc, ◌+◌, ◌-◌, ◌*◌, ◌/◌, ◌^◌, ◌<◌, ◌≤◌, Bool, true, false, cond, eqb, ltb, ◌⊎◌, List, [], ◌∷◌, map, length, get_or, drop, ℤ, pos, negsuc, ◌+ℤ◌, ◌*ℤ◌, neg_ℤ, Some, None, Ok, Err, Option, Result, sym, refl, ap, ◌∙◌, subst, ap₂, inl, inr, mul-pos, mul-div_cancel, add-one, arith, drop_of_length-le, drop-cons, pow_pos}
+use Rattle.std.proofs.Common.{◌≡◌, ℕ, zero, suc, ◌+◌, ◌-◌, ◌*◌, ◌/◌, ◌^◌, ◌<◌, ◌≤◌, Bool, false, cond, eqb, ltb, ◌⊎◌, List, [], ◌∷◌, map, length, get_or, drop, ℤ, pos, negsuc, ◌+ℤ◌, ◌*ℤ◌, neg_ℤ, Some, None, Ok, Err, Option, Result, sym, refl, ap, ◌∙◌, subst, ap₂, inl, inr, mul-pos, mul-div_cancel, add-one, arith, drop_of_length-le, drop-cons, pow_pos}
 use native.Mathlib.Nat.{zero-div}
 use lib.IntN.{+ℤ_assoc}
 use lib.ListN.{length-map}
@@ -7,11 +7,10 @@ use lib.Signed.{quot_z}
 use Rattle.std.proofs.lemmas.Bool.{eq-eqb, ne_eqb, lt-ltb, le-ltb, cond-true, cond-false, cases_lt, cases_order}
 use Rattle.numbers.specs.declared.factor.Factor.{Factor}
 use Rattle.numbers.specs.declared.piece.Piece.{Piece}
-use Rattle.numbers.specs.declared.refusal.Reason.{Reason}
 use Rattle.numbers.specs.declared.refusal.Refusal.{Refusal}
 use Rattle.numbers.specs.Acceptance.{Answers, element_code}
 use Rattle.numbers.specs.Products.{factor_units, piece_units, one_units}
-use Rattle.numbers.specs.Refusals.{code_of, side_of}
+use Rattle.numbers.specs.Refusals.{side_of}
 use Rattle.numbers.specs.Units.{rank, units}
 use Rattle.numbers.proofs.Tested.{answer-code, code-above}
 use Rattle.runs.specs.Calls.{Outcome, accepted, refused, Says, ◌and_then◌, lengths_outcome, room_outcome, element_outcome, pair_outcome, elements_outcome, product_value, product_entries, slices_outcome, FactorAt, PieceOf, After}

@@ -1,5 +1,5 @@
 -- Entering a line: how its tests and its put settle the call. Assumes nothing.
-use Rattle.std.proofs.Common.{◌≡◌, ℕ, ◌+◌, ◌<◌, ◌≤◌, Bool, cond, List, [], ◌∷◌, length, ℤ, ◌+ℤ◌, neg_ℤ, Ok, Err, Option, Result, sym, refl, ap, ◌∙◌, subst, arith}
+use Rattle.std.proofs.Common.{◌≡◌, ℕ, ◌+◌, ◌≤◌, Bool, cond, [], ◌∷◌, length, ℤ, ◌+ℤ◌, neg_ℤ, Ok, Err, Option, Result, sym, refl, ap, ◌∙◌, subst, arith}
 use lib.IntN.{+ℤ_idr}
 use Rattle.numbers.specs.declared.piece.Piece.{Piece}
 use Rattle.numbers.specs.declared.refusal.Refusal.{Refusal}
@@ -7,7 +7,7 @@ use Rattle.numbers.specs.Products.{piece_units}
 use Rattle.numbers.specs.Refusals.{Refused}
 use Rattle.condensers.specs.Meaning.{PutAnswer, PutAfter}
 use Rattle.runs.specs.Bags.{entry_sum}
-use Rattle.runs.specs.Calls.{Outcome, accepted, refused, Says, room_outcome, pair_outcome, product_value, product_entries, LineReading, misread, product, ValueCall, sheet_line, call_outcome, Made}
+use Rattle.runs.specs.Calls.{Outcome, accepted, Says, room_outcome, pair_outcome, product_value, product_entries, LineReading, misread, product, ValueCall, sheet_line, call_outcome, Made}
 use Rattle.runs.proofs.Elements.{says_first, says_second, passed, refused_after, accepted_after, room_left}
 
 module _ {C : Type 0} (capacity : ℕ) (total : C → ℤ) (count : C → ℕ) (before : C) where

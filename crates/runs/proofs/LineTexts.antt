@@ -1,8 +1,8 @@
 -- Lines: the answer of the line reader is what the text says. Assumes nothing.
-use Rattle.std.proofs.Common.{◌≡◌, ℕ, ◌+◌, ◌^◌, ◌<◌, ◌≤◌, Bool, true, false, cond, not, ◌&&◌, ◌||◌, T, eqb, leb, ◌⊎◌, List, [], ◌∷◌, ◌++◌, length, drop, ℤ, pos, neg_ℤ, ◌≤ℤ◌, ◌<ℤ◌, Err, codes, sym, refl, ap, ◌∙◌, subst, ap₂, inl, inr, le_antisymm, arith, w32, SFits}
+use Rattle.std.proofs.Common.{◌≡◌, ℕ, ◌+◌, ◌^◌, ◌<◌, ◌≤◌, Bool, true, false, cond, not, ◌&&◌, ◌||◌, T, eqb, leb, ◌⊎◌, List, [], ◌∷◌, ◌++◌, length, drop, ℤ, pos, neg_ℤ, Err, codes, sym, refl, ap, ◌∙◌, subst, ap₂, inl, inr, le_antisymm, arith, w32, SFits}
 use lib.Ieee.Bits.{is_true}
 use lib.Signed.{lt_z, le_z}
-use Rattle.std.proofs.lemmas.Bool.{eq-eqb, ne_eqb, eqb-true, le-leb, lt-leb, cond-true, cond-false, and_parts, and_from, and_left, or_left, or_right, or_cases, cases_lt, both_ways, not-true, false≢true}
+use Rattle.std.proofs.lemmas.Bool.{eq-eqb, ne_eqb, eqb-true, le-leb, lt-leb, cond-true, cond-false, and_parts, and_from, or_left, or_right, or_cases, cases_lt, both_ways, not-true, false≢true}
 use Rattle.numbers.specs.declared.refusal.Refusal.{Refusal}
 use Rattle.numbers.specs.Counts.{count_value}
 use Rattle.numbers.specs.Patterns.{pattern_value}

@@ -1,5 +1,5 @@
 -- Playing calls: a condenser goes on holding the bag of the calls that were made, and the buffer the answers. Assumes nothing.
-use Rattle.std.proofs.Common.{◌≡◌, ℕ, zero, suc, ◌+◌, ◌<◌, ◌≤◌, Bool, true, false, cond, ltb, ◌⊎◌, List, [], ◌∷◌, ◌++◌, map, length, get_or, drop, set, ℤ, pos, ◌+ℤ◌, Result, sym, refl, ap, ◌∙◌, subst, ap₂, inl, inr, add-one, arith, length-append, length-set, drop_of_length-le, drop-cons}
+use Rattle.std.proofs.Common.{◌≡◌, ℕ, zero, suc, ◌+◌, ◌<◌, ◌≤◌, cond, ltb, ◌⊎◌, List, [], ◌∷◌, ◌++◌, map, length, get_or, drop, set, ℤ, pos, ◌+ℤ◌, Result, sym, refl, ap, ◌∙◌, subst, inl, inr, add-one, arith, length-append, length-set, drop_of_length-le, drop-cons}
 use lib.IntN.{+ℤ_assoc, +ℤ_idl, +ℤ_comm}
 use Rattle.std.proofs.lemmas.Bool.{cases_lt, lt-ltb, le-ltb, cond-true, cond-false}
 use Rattle.numbers.specs.declared.refusal.Refusal.{Refusal}

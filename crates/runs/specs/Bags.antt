@@ -1,5 +1,5 @@
 -- The bag of a run: the products entered, each by its exact value in units, with a net count for every number.
-use Rattle.std.specs.Prelude.{ℕ, Bool, true, false, cond, ◌||◌, List, [], ◌∷◌, map, ℤ, pos, negsuc, ◌+ℤ◌, ◌*ℤ◌, neg_ℤ, ◌==◌}
+use Rattle.std.specs.Prelude.{Bool, true, false, cond, ◌||◌, List, [], ◌∷◌, map, ℤ, pos, negsuc, ◌+ℤ◌, ◌*ℤ◌, neg_ℤ, ◌==◌}
 
 -- a product that was entered: its exact value, and whether it was withdrawn
 pub record Entry : Type 0 where

@@ -1,5 +1,5 @@
 -- Queues of calls, by the values of their elements: what each call answers, and the bag that they leave.
-use Rattle.std.specs.Prelude.{◌≡◌, ℕ, ◌+◌, Bool, true, false, List, [], ◌∷◌, ◌++◌, map, length, ℤ, Option, slice_set}
+use Rattle.std.specs.Prelude.{◌≡◌, ℕ, ◌+◌, true, false, List, [], ◌∷◌, ◌++◌, map, length, ℤ, Option, slice_set}
 use Rattle.numbers.specs.Counts.{count_value}
 use Rattle.numbers.specs.Patterns.{pattern_value}
 use Rattle.runs.specs.declared.queue.Answer.{Answer}

@@ -1,5 +1,5 @@
 -- The run's answer settles the line. Assumes nothing.
-use Rattle.std.proofs.Common.{ℕ, List, Ok, Err, sym, subst}
+use Rattle.std.proofs.Common.{ℕ, List, Ok, Err, subst}
 use Rattle.runs.specs.Calls.{Made}
 use Rattle.reports.specs.Sheets.{line_call}
 use Rattle.reports.proofs.Standing.{enters_ok, enters_err}

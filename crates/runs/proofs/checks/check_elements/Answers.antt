@@ -1,5 +1,5 @@
 -- The outcome of the whole is that of what is left, and each turn settles one index. Assumes nothing.
-use Rattle.std.proofs.Common.{◌≡◌, ◌<◌, length, Ok, Err, sym, ◌∙◌, subst, arith}
+use Rattle.std.proofs.Common.{◌<◌, length, Ok, Err, sym, ◌∙◌, subst, arith}
 use Rattle.std.proofs.lemmas.Result.{err_from_is_err_and}
 use Rattle.runs.specs.Calls.{Outcome, Says}
 use Rattle.runs.proofs.Elements.{passed, says_first, elements_step, elements_end}

@@ -6,15 +6,15 @@ use Rattle.reports.specs.Sheets.{refusals, lines_bag}
 use Rattle.reports.proofs.Standing.{none-ended, one_ended, number_is, holds_more, refusals_more, took_some}
 use Rattle.reports.proofs.sheet.Sheet.feed_line.Goals as goal
 
-pub returns-then-is-complete : goal.returns-then-is-complete
-returns-then-is-complete g c =
+pub returns-then-is_complete : goal.returns-then-is_complete
+returns-then-is_complete g c =
     let cap = g.C.Condenser.capacity in
     let total = g.C.Condenser.total in
     let count = g.C.Condenser.count in
     let took = c.take-taken.ensures.answer in
     let s = c.args.self.now.lines in
     let s2 = c.take-taken.new.self in
-    let full = sym c.if-is-complete.ensures.answer in
+    let full = sym c.if-is_complete.ensures.answer in
     let chunk = c.args.chunk.now in
     let r = c.take-taken.result in
     record {
@@ -23,12 +23,12 @@ returns-then-is-complete g c =
       law = λ past st.
           record {
             lines_are = c.take-taken.ensures.after past st.lines_are;
-            holds = subst (λ (ls : List (List ℕ)). Holds total count c.enter-held-refused.new.run.condenser (lines_bag cap ls)) (sym (one_ended past chunk r s s2 st.lines_are took full))
-                (holds_more cap total count (ended [] past) _ _ c.enter-held-refused.new.run.condenser c.enter-held-refused.result (c.enter-held-refused.ensures.after _ st.holds));
+            holds = subst (λ (ls : List (List ℕ)). Holds total count c.enter_held-refused.new.run.condenser (lines_bag cap ls)) (sym (one_ended past chunk r s s2 st.lines_are took full))
+                (holds_more cap total count (ended [] past) _ _ c.enter_held-refused.new.run.condenser c.enter_held-refused.result (c.enter_held-refused.ensures.after _ st.holds));
           };
       answer = λ past st few.
           ap (refusals cap) (one_ended past chunk r s s2 st.lines_are took full)
-          ∙ refusals_more cap total count (ended [] past) _ _ c.enter-held-refused.new.run.condenser c.enter-held-refused.result (c.enter-held-refused.ensures.after _ st.holds)
+          ∙ refusals_more cap total count (ended [] past) _ _ c.enter_held-refused.new.run.condenser c.enter_held-refused.result (c.enter_held-refused.ensures.after _ st.holds)
           (number_is past chunk r s s2 st.lines_are took full (c.take-taken.ensures.after past st.lines_are) few);
     }
 
@@ -40,7 +40,7 @@ returns g c =
     let took = c.take-taken.ensures.answer in
     let s = c.args.self.now.lines in
     let s2 = c.take-taken.new.self in
-    let part = sym c.if-is-complete.ensures.answer in
+    let part = sym c.if-is_complete.ensures.answer in
     let chunk = c.args.chunk.now in
     let r = c.take-taken.result in
     record {

@@ -6,21 +6,21 @@ use Rattle.reports.specs.Sheets.{refusals, lines_bag}
 use Rattle.reports.proofs.Standing.{no_rest, some-rest, rest-number, holds_more, refusals_more}
 use Rattle.reports.proofs.sheet.Sheet.finish_rest.Goals as goal
 
-pub returns-then-has-rest : goal.returns-then-has-rest
-returns-then-has-rest g c =
+pub returns-then-has_rest : goal.returns-then-has_rest
+returns-then-has_rest g c =
     let cap = g.C.Condenser.capacity in
     let total = g.C.Condenser.total in
     let count = g.C.Condenser.count in
     let s = c.args.self.lines in
-    let rest = c.if-has-rest.ensures.answer in
+    let rest = c.if-has_rest.ensures.answer in
     record {
       answer = λ past st few.
           ap (refusals cap) (some-rest past s st.lines_are rest)
-          ∙ refusals_more cap total count (ended [] past) _ _ c.enter-held-refused.new.run.condenser c.enter-held-refused.result (c.enter-held-refused.ensures.after _ st.holds) (rest-number past s st.lines_are rest few);
+          ∙ refusals_more cap total count (ended [] past) _ _ c.enter_held-refused.new.run.condenser c.enter_held-refused.result (c.enter_held-refused.ensures.after _ st.holds) (rest-number past s st.lines_are rest few);
       after = λ past st.
           subst (λ x. Holds total count x (lines_bag cap (sheet_lines past))) (sym c.seal.ensures.unchanged)
-          (subst (λ (ls : List (List ℕ)). Holds total count c.enter-held-refused.new.run.condenser (lines_bag cap ls)) (sym (some-rest past s st.lines_are rest))
-          (holds_more cap total count (ended [] past) _ _ c.enter-held-refused.new.run.condenser c.enter-held-refused.result (c.enter-held-refused.ensures.after _ st.holds)));
+          (subst (λ (ls : List (List ℕ)). Holds total count c.enter_held-refused.new.run.condenser (lines_bag cap ls)) (sym (some-rest past s st.lines_are rest))
+          (holds_more cap total count (ended [] past) _ _ c.enter_held-refused.new.run.condenser c.enter_held-refused.result (c.enter_held-refused.ensures.after _ st.holds)));
     }
 
 pub returns : goal.returns
@@ -29,7 +29,7 @@ returns g c =
     let total = g.C.Condenser.total in
     let count = g.C.Condenser.count in
     let s = c.args.self.lines in
-    let none = c.if-has-rest.ensures.answer in
+    let none = c.if-has_rest.ensures.answer in
     record {
       answer = λ past st few. ap (refusals cap) (no_rest past s st.lines_are none) ∙ sym (append-nil (refusals cap (ended [] past)));
       after = λ past st.

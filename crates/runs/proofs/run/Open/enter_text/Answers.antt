@@ -1,5 +1,5 @@
 -- A line's text, the room and its elements are tested before the product is put. Assumes nothing.
-use Rattle.std.proofs.Common.{ℕ, Bool, cond, ℤ, neg_ℤ, Ok, Err, sym, ap, ◌∙◌, subst, ap₂}
+use Rattle.std.proofs.Common.{ℕ, Bool, cond, ℤ, neg_ℤ, Ok, Err, ◌∙◌, subst, ap₂}
 use Rattle.std.proofs.lemmas.Result.{err_from_is_err_and}
 use Rattle.runs.specs.Calls.{Outcome, Says, room_outcome}
 use Rattle.runs.specs.Lines.{line_reading}

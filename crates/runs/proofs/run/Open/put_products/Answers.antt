@@ -1,5 +1,5 @@
 -- Each turn puts one product. Assumes nothing.
-use Rattle.std.proofs.Common.{◌≡◌, ◌<◌, cond, length, ℤ, ◌+ℤ◌, neg_ℤ, sym, ap, ◌∙◌, arith}
+use Rattle.std.proofs.Common.{◌<◌, cond, length, ℤ, ◌+ℤ◌, neg_ℤ, sym, ap, ◌∙◌, arith}
 use lib.IntN.{+ℤ_idr}
 use Rattle.runs.proofs.Elements.{not_both, elements_turn, entries_step, entries_end, entries_count, put_turn}
 use Rattle.runs.proofs.run.Open.put_products.Goals as goal
