@@ -1,2 +1,3 @@
 -- The definitions that the contracts of `run_trials` cite.
 pub mod Duo
+pub mod Laws

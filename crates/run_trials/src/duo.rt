@@ -1,9 +1,10 @@
 //! A condenser that keeps at most two pieces, as they were put.
-ghost use Rattle.std.specs.Prelude.{◌≡◌, ℕ, [], ◌∷◌, length};
+ghost use Rattle.std.specs.Prelude.{◌≡◌, ℕ, [], ◌∷◌, length, refl};
 ghost use Rattle.numbers.specs.Products.{piece_units, summand_units};
 ghost use Rattle.condensers.specs.Meaning.{sum_units, StandsAt};
+ghost use Rattle.std.proofs.Common.{lit≤};
 ghost use Rattle.run_trials.specs.Duo.{kept};
-ghost use Rattle.std.proofs.Common.{rules};
+ghost use Rattle.run_trials.specs.Laws.{kept_within, kept_few};
 
 use condensers::condenser::Condenser;
 use numbers::piece::{Piece, Summand};
@@ -37,15 +38,15 @@ impl Condenser for Duo {
 
     ghost summands = { λ d. kept d };
 
-    ghost capacity_above = { Prim.search rules };
+    ghost capacity_above = { lit≤ tt };
 
-    ghost capacity_below = { Prim.search rules };
+    ghost capacity_below = { lit≤ tt };
 
-    ghost count_within = { Prim.search rules };
+    ghost count_within = { kept_within };
 
-    ghost summands_few = { Prim.search rules };
+    ghost summands_few = { kept_few };
 
-    ghost summands_exact = { Prim.search rules };
+    ghost summands_exact = { λ _. refl };
 
     fn empty(&mut self) {
         *self = Duo::Empty;

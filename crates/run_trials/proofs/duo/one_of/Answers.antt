@@ -4,7 +4,7 @@ use Rattle.run_trials.proofs.duo.one_of.Goals as goal
 
 pub returns : goal.returns
 returns c =
-    let nothing = c.no-summand.ensures.answer c.args.k in
+    let nothing = c.no_summand.ensures.answer c.args.k in
     record {
       answer = record {
         within = λ l. absurd (c.if-k-eq0.false (omega (arith, l)));

@@ -16,16 +16,15 @@ piece_bounded p =
 code-exponent : (p : Piece) → to_z w32 (of_z w32 p.exponent) ≡ p.exponent
 code-exponent p = omega (arith, ints)
 
-pub invariant-of-result : goal.invariant-of-result
-invariant-of-result c =
+pub invariant_of-result : goal.invariant_of-result
+invariant_of-result c =
     let p = c.args.piece in
-    let e = code-exponent p in (
-      omega (arith, p.short),
-      (
-        omega (arith, ints),
-        (
-          omega (arith, ints),
-          (subst (λ (x : ℤ). p.significand * 2 ^ rank x ≤ 2 ^ rank (pos 1006)) (sym e) (piece_bounded p), (p.plus, ((λ z. e ∙ p.plain z), tt))),
-        ),
-      ),
-    )
+    let e = code-exponent p in
+    record {
+      short = omega (arith, p.short);
+      low = omega (arith, ints);
+      high = omega (arith, ints);
+      bounded = subst (λ (x : ℤ). p.significand * 2 ^ rank x ≤ 2 ^ rank (pos 1006)) (sym e) (piece_bounded p);
+      plus = p.plus;
+      plain = λ z. e ∙ p.plain z;
+    }
