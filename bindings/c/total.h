@@ -3,7 +3,7 @@
  * The calls keep nothing between them and allocate nothing. Slices are lent for the time of the call: a pointer, which
  * is never null (also where the length is 0), and a number of elements.
  *
- * Link libexports.a, which `rt staticlib exports` writes to target/staticlib. */
+ * Link libexports.a, which is a copy of crates/exports_c/out/libexports_c.a, made by `rt lib` in crates/exports_c. */
 #ifndef TOTAL_H
 #define TOTAL_H
 

@@ -15,34 +15,21 @@ use readings::forms::Form;
 use runs::run::Open;
 
 /// The sum of the products of two slices of binary64 patterns.
-#[unsafe(no_mangle)]
-pub extern "C" fn total_dot_patterns(
-    firsts: &[u64],
-    seconds: &[u64],
-    direction: u32,
-    width: u32,
-) -> Answer
+pub fn total_dot_patterns(firsts: &[u64], seconds: &[u64], direction: u32, width: u32) -> Answer
     ensures answer { Dot (map pattern_value firsts.now) (map pattern_value seconds.now) direction width result }
 {
     dot::<Patterns, Patterns>(firsts, seconds, direction, width)
 }
 
 /// The sum of the products of two slices of counts.
-#[unsafe(no_mangle)]
-pub extern "C" fn total_dot_counts(
-    firsts: &[i32],
-    seconds: &[i32],
-    direction: u32,
-    width: u32,
-) -> Answer
+pub fn total_dot_counts(firsts: &[i32], seconds: &[i32], direction: u32, width: u32) -> Answer
     ensures answer { Dot (map count_value firsts.now) (map count_value seconds.now) direction width result }
 {
     dot::<Counts, Counts>(firsts, seconds, direction, width)
 }
 
 /// The sum of the products of a slice of binary64 patterns and one of counts.
-#[unsafe(no_mangle)]
-pub extern "C" fn total_dot_patterns_counts(
+pub fn total_dot_patterns_counts(
     firsts: &[u64],
     seconds: &[i32],
     direction: u32,

@@ -5,8 +5,7 @@ use crate::answer::Answer;
 use reports::in_memory::report_sheet;
 
 /// Writes the reports of a sheet, one behind the other, and tells how many bytes they have; or refuses a slice that is too short, which then stays as it was.
-#[unsafe(no_mangle)]
-pub extern "C" fn total_report(sheet: &[u8], out: &mut [u8]) -> Answer
+pub fn total_report(sheet: &[u8], out: &mut [u8]) -> Answer
     ensures answer { Report sheet.now out.old out.new result }
 {
     match report_sheet(sheet, out) {
