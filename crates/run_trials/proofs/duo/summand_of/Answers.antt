@@ -1,5 +1,5 @@
 -- A piece lies within the limits of a summand. Assumes nothing.
-use Rattle.std.proofs.Common.{◌≡◌, ℕ, ◌*◌, ◌^◌, ◌≤◌, ℤ, pos, negsuc, ◌≤ℤ◌, sym, ◌∙◌, subst, le_trans, le_of_lt, mul-le-mul, arith, lit<, pow_mono, w32, to_z, of_z}
+use Rattle.std.proofs.Common.{◌≡◌, ◌*◌, ◌^◌, ◌≤◌, ℤ, pos, sym, ◌∙◌, subst, le_trans, le_of_lt, mul-le-mul, arith, lit<, pow_mono, w32, to_z, of_z}
 use borrow.Author.Differences.{ints}
 use Rattle.numbers.specs.declared.piece.Piece.{Piece}
 use Rattle.numbers.specs.Units.{rank}
