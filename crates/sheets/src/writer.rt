@@ -8,7 +8,9 @@ use crate::line::{Field, Line, Word};
 use crate::reader::read_line;
 use crate::text::Text;
 use crate::written::Written;
+use numbers::counts::Counts;
 use numbers::kind::Kind;
+use numbers::patterns::Patterns;
 use numbers::refusal::Refusal;
 
 /// Writes a line without a line feed. It takes every element of a kind.
@@ -101,7 +103,7 @@ fn put_again(field: Field<'_>, text: &mut Text)
     ensures count { length (text_of text.new) ≤ length (text_of text.old) + 18 }
 {
     match field {
-        Field::Pattern { element, .. } => put_field::<numbers::patterns::Patterns>(element, text),
-        Field::Count { element, .. } => put_field::<numbers::counts::Counts>(element, text),
+        Field::Pattern { element, .. } => put_field::<Patterns>(element, text),
+        Field::Count { element, .. } => put_field::<Counts>(element, text),
     }
 }
