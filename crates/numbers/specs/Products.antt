@@ -31,3 +31,9 @@ pub record IsOpposite (p r : Piece) : Type 0 where
   pub significand_is : r.significand ≡ p.significand
   pub exponent_is : r.exponent ≡ p.exponent
   pub sign_is : r.negative ≡ cond (p.significand == 0) false (not p.negative)
+
+-- the same sign, significand and exponent, and so the same value
+pub record IsSummandOf (p : Piece) (r : Summand) : Type 0 where
+  pub significand_is : r.significand ≡ p.significand
+  pub exponent_is : r.exponent ≡ p.exponent
+  pub sign_is : r.negative ≡ p.negative

@@ -1,5 +1,5 @@
 -- The numbers that stand for a refusal: its code, its place and its side.
-use Rattle.std.specs.Prelude.{◌≡◌, ℕ}
+use Rattle.std.specs.Prelude.{◌≡◌, ℕ, List, ◌∷◌, ◌++◌, decimal}
 use Rattle.numbers.specs.declared.refusal.Reason.{Reason}
 use Rattle.numbers.specs.declared.refusal.Reason.TheVariants.{NotFinite, NotFactor, LengthsDiffer, Full, Shape, CountRange, OutputShort, ShortRange}
 use Rattle.numbers.specs.declared.refusal.Side.{Side}
@@ -24,3 +24,7 @@ side_of Second = 2
 -- the refusal r says code, place and side
 abbrev pub Refused : Refusal → ℕ → ℕ → ℕ → Type 0
 Refused r code place side = (code_of r.reason ≡ code) × (r.place ≡ place) × (side_of r.side ≡ side)
+
+-- the three numbers in decimal, parted by spaces
+abbrev pub refusal_text : Refusal → List ℕ
+refusal_text r = decimal (code_of r.reason) ++ 32 ∷ (decimal r.place ++ 32 ∷ decimal (side_of r.side))

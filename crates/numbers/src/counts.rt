@@ -18,19 +18,11 @@ impl Kind for Counts {
 
     const WIDTH: u32 = 32;
 
+    ghost LETTER = { 99 };
+
+    ghost WIDTH = { 32 };
+
     ghost value = { count_value };
-
-    ghost letter = { 99 };
-
-    ghost width = { 32 };
-
-    fn field_letter() -> u8 {
-        Self::LETTER
-    }
-
-    fn element_bits() -> u32 {
-        Self::WIDTH
-    }
 
     fn factor(element: i32) -> Result<Factor, Reason>
         ensures answer { Answers (count_value element) result }

@@ -1,5 +1,5 @@
 //! What a kind of number is: its elements, their letter and width on a sheet, and the factor of each.
-ghost use Rattle.std.specs.Prelude.{◌≡◌, ℕ, ℤ, Option};
+ghost use Rattle.std.specs.Prelude.{ℕ, ℤ, Option};
 ghost use Rattle.numbers.specs.Acceptance.{Answers};
 
 use crate::factor::Factor;
@@ -14,20 +14,12 @@ pub trait Kind {
     /// The bits of an element.
     const WIDTH: u32;
 
+    ghost LETTER: { ℕ };
+
+    ghost WIDTH: { ℕ };
+
     /// An element's value in units of 2^-1074, or none where it has no finite value.
     ghost value: { Self.Element → Option ℤ };
-
-    ghost letter: { ℕ };
-
-    ghost width: { ℕ };
-
-    /// The constant `LETTER`, as a contract can name it.
-    fn field_letter() -> u8
-        ensures answer { result ≡ letter };
-
-    /// The constant `WIDTH`, as a contract can name it.
-    fn element_bits() -> u32
-        ensures answer { result ≡ width };
 
     /// The element's factor, or why it has none.
     fn factor(element: Self::Element) -> Result<Factor, Reason>

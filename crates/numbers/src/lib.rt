@@ -9,5 +9,6 @@ pub mod patterns;
 pub mod piece;
 pub mod product;
 pub mod refusal;
+pub mod summand;
 #[cfg(test)]
 mod tests;

@@ -21,19 +21,11 @@ impl Kind for Patterns {
 
     const WIDTH: u32 = 64;
 
+    ghost LETTER = { 112 };
+
+    ghost WIDTH = { 64 };
+
     ghost value = { pattern_value };
-
-    ghost letter = { 112 };
-
-    ghost width = { 64 };
-
-    fn field_letter() -> u8 {
-        Self::LETTER
-    }
-
-    fn element_bits() -> u32 {
-        Self::WIDTH
-    }
 
     fn factor(element: u64) -> Result<Factor, Reason>
         ensures answer { Answers (pattern_value element) result }

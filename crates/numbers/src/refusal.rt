@@ -1,34 +1,38 @@
 //! A refusal: why a call said no, at which place, and on which side.
-ghost use Rattle.std.specs.Prelude.{◌≡◌};
-ghost use Rattle.numbers.specs.Refusals.{code_of, side_of};
+ghost use Rattle.std.specs.Prelude.{◌≡◌, Some};
+ghost use Rattle.numbers.specs.declared.refusal.Side.TheVariants.{Neither};
+ghost use Rattle.numbers.specs.Refusals.{code_of, side_of, refusal_text};
 
-/// Why a call was refused.
+use std::error::Error;
+use std::fmt;
+
+/// Why a call was refused, by the number that stands for it.
 #[derive(Clone, Copy, PartialEq, Eq, Debug)]
 pub enum Reason {
     /// The element has no finite value.
-    NotFinite,
+    NotFinite = 1,
     /// The element's value is no factor's value, or too small.
-    NotFactor,
+    NotFactor = 2,
     /// The two slices differ in length.
-    LengthsDiffer,
-    /// The condenser cannot take that many pieces more.
-    Full,
+    LengthsDiffer = 3,
+    /// No piece more can be put.
+    Full = 4,
     /// The line has another shape.
-    Shape,
+    Shape = 5,
     /// The count lies outside the range of its kind.
-    CountRange,
+    CountRange = 6,
     /// The output slice is too short.
-    OutputShort,
+    OutputShort = 7,
     /// The long reading is too large for the short width.
-    ShortRange,
+    ShortRange = 8,
 }
 
 /// Which of two slices or fields a refusal speaks of.
 #[derive(Clone, Copy, PartialEq, Eq, Debug)]
 pub enum Side {
-    Neither,
-    First,
-    Second,
+    Neither = 0,
+    First = 1,
+    Second = 2,
 }
 
 /// What a refused call answers.
@@ -44,16 +48,7 @@ impl Reason {
     pub fn code(self) -> u64
         ensures answer { result ≡ code_of self }
     {
-        match self {
-            Reason::NotFinite => 1,
-            Reason::NotFactor => 2,
-            Reason::LengthsDiffer => 3,
-            Reason::Full => 4,
-            Reason::Shape => 5,
-            Reason::CountRange => 6,
-            Reason::OutputShort => 7,
-            Reason::ShortRange => 8,
-        }
+        self as u64
     }
 }
 
@@ -62,10 +57,33 @@ impl Side {
     pub fn number(self) -> u64
         ensures answer { result ≡ side_of self }
     {
-        match self {
-            Side::Neither => 0,
-            Side::First => 1,
-            Side::Second => 2,
+        self as u64
+    }
+}
+
+impl Refusal {
+    /// A refusal at a place that lies on neither side.
+    pub fn at(reason: Reason, place: u64) -> Refusal
+        ensures answer { result ≡ record { reason = reason; place = place; side = Neither } }
+    {
+        Refusal {
+            reason,
+            place,
+            side: Side::Neither,
         }
     }
 }
+
+/// Code, place and side in decimal, parted by spaces.
+impl fmt::Display for Refusal {
+    ghost output = { λ r. Some (refusal_text r) };
+
+    fn fmt<W: fmt::Write>(&self, f: &mut fmt::Formatter<W>) -> fmt::Result {
+        let code = self.reason.code();
+        let place = self.place;
+        let side = self.side.number();
+        write!(f, "{code} {place} {side}")
+    }
+}
+
+impl Error for Refusal {}
