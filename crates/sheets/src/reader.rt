@@ -100,11 +100,7 @@ fn scan_line<'a>(line: &'a [u8]) -> Result<Scanned<'a>, Refusal>
 fn misshapen(place: usize) -> Refusal
     ensures answer { Refused result 5 place 0 }
 {
-    Refusal {
-        reason: Reason::Shape,
-        place: place as u64,
-        side: Side::Neither,
-    }
+    Refusal::at(Reason::Shape, place as u64)
 }
 
 fn out_of_range(field: usize, side: Side) -> Refusal
@@ -167,7 +163,7 @@ fn read_field<'a>(line: &'a [u8], at: usize) -> Result<Found<'a>, Refusal>
 
 /// The field of the kind whose letter stands at `at`.
 fn field_of<'a, K: Written>(line: &'a [u8], at: usize) -> Result<Found<'a>, Refusal>
-    requires { (at < length line.now) × (slice_index line.now at ≡ K.Kind.letter) }
+    requires { (at < length line.now) × (slice_index line.now at ≡ K.Kind.LETTER) }
     ensures answer { ReadsField line.now at result }
 {
     let Read { len, element } = match K::read(&line[at + 1..]) {

@@ -20,9 +20,9 @@ pub fn write_line<K: Written, L: Written>(
     second: L::Element,
     out: &mut [u8],
 ) -> Result<usize, Refusal>
-    ensures answer { Fits (line_text (word_text word) (K.Kind.letter ∷ K.Written.text first) (L.Kind.letter ∷ L.Written.text second)) (length out.old) result }
-    ensures bytes { out.new ≡ handed (line_text (word_text word) (K.Kind.letter ∷ K.Written.text first) (L.Kind.letter ∷ L.Written.text second)) out.old }
-    ensures law { RoundTrip (line_text (word_text word) (K.Kind.letter ∷ K.Written.text first) (L.Kind.letter ∷ L.Written.text second)) word (λ f. K.Written.holds f first) (λ f. L.Written.holds f second) }
+    ensures answer { Fits (line_text (word_text word) (K.Kind.LETTER ∷ K.Written.text first) (L.Kind.LETTER ∷ L.Written.text second)) (length out.old) result }
+    ensures bytes { out.new ≡ handed (line_text (word_text word) (K.Kind.LETTER ∷ K.Written.text first) (L.Kind.LETTER ∷ L.Written.text second)) out.old }
+    ensures law { RoundTrip (line_text (word_text word) (K.Kind.LETTER ∷ K.Written.text first) (L.Kind.LETTER ∷ L.Written.text second)) word (λ f. K.Written.holds f first) (λ f. L.Written.holds f second) }
 {
     let text = line_text::<K, L>(word, first, second);
     text.copy_to(out)
@@ -47,8 +47,8 @@ fn rewrite(line: &[u8], out: &mut [u8]) -> Result<usize, Refusal>
 
 /// The word and the two fields, each behind a tab.
 fn line_text<K: Written, L: Written>(word: Word, first: K::Element, second: L::Element) -> Text
-    ensures bytes { text_of result ≡ line_text (word_text word) (K.Kind.letter ∷ K.Written.text first) (L.Kind.letter ∷ L.Written.text second) }
-    ensures law { RoundTrip (line_text (word_text word) (K.Kind.letter ∷ K.Written.text first) (L.Kind.letter ∷ L.Written.text second)) word (λ f. K.Written.holds f first) (λ f. L.Written.holds f second) }
+    ensures bytes { text_of result ≡ line_text (word_text word) (K.Kind.LETTER ∷ K.Written.text first) (L.Kind.LETTER ∷ L.Written.text second) }
+    ensures law { RoundTrip (line_text (word_text word) (K.Kind.LETTER ∷ K.Written.text first) (L.Kind.LETTER ∷ L.Written.text second)) word (λ f. K.Written.holds f first) (λ f. L.Written.holds f second) }
 {
     let mut text = Text::new();
     text.put_bytes(word_bytes(word));
@@ -86,13 +86,13 @@ fn word_bytes(word: Word) -> &'static [u8]
 /// Puts a tab, the kind's letter and the text of the element.
 fn put_field<K: Written>(element: K::Element, text: &mut Text)
     requires { length (text_of text.old) ≤ 60 }
-    ensures bytes { text_of text.new ≡ text_of text.old ++ (9 ∷ (K.Kind.letter ∷ K.Written.text element)) }
+    ensures bytes { text_of text.new ≡ text_of text.old ++ (9 ∷ (K.Kind.LETTER ∷ K.Written.text element)) }
     ensures limits { length (K.Written.text element) ≤ 16 }
     ensures count { length (text_of text.new) ≤ length (text_of text.old) + 18 }
-    ensures law { Stands K.Kind.letter K.Written.shape K.Written.outside (K.Written.text element) (λ f. K.Written.holds f element) }
+    ensures law { Stands K.Kind.LETTER K.Written.shape K.Written.outside (K.Written.text element) (λ f. K.Written.holds f element) }
 {
     text.put_bytes(b"\t");
-    text.put_byte(K::field_letter());
+    text.put_byte(K::LETTER);
     text.put_text(&K::write(element));
 }
 

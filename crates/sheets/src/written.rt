@@ -39,11 +39,11 @@ pub trait Written: Kind {
     /// The text of an element at the front of `bytes`, or how many bytes go along with the shape before another byte or the end comes.
     fn read(bytes: &[u8]) -> Result<Read<Self::Element>, usize>
         ensures answer { ReadsText shape text outside bytes.now result }
-        ensures law { Leads Self.Kind.letter shape outside };
+        ensures law { Leads Self.Kind.LETTER shape outside };
 
     /// The field that holds an element, with its text and the place of its letter.
     fn field<'a>(digits: &'a [u8], place: u64, element: Self::Element) -> Field<'a>
-        ensures bytes { field_text result ≡ Self.Kind.letter ∷ digits.now }
+        ensures bytes { field_text result ≡ Self.Kind.LETTER ∷ digits.now }
         ensures answer { place_of result ≡ place }
         ensures value { text element ≡ digits.now → Writes result }
         ensures limits { Proper result };
@@ -52,7 +52,7 @@ pub trait Written: Kind {
     fn write(element: Self::Element) -> Text
         ensures bytes { text_of result ≡ text element }
         ensures limits { length (text element) ≤ 16 }
-        ensures law { Stands Self.Kind.letter shape outside (text element) (λ f. holds f element) };
+        ensures law { Stands Self.Kind.LETTER shape outside (text element) (λ f. holds f element) };
 }
 
 impl Written for Patterns {
@@ -65,7 +65,7 @@ impl Written for Patterns {
     ghost holds = { HoldsPattern };
 
     fn read(bytes: &[u8]) -> Result<Read<u64>, usize> {
-        read_pattern(bytes, pattern_digits())
+        read_pattern(bytes)
     }
 
     fn field<'a>(digits: &'a [u8], place: u64, element: u64) -> Field<'a> {
@@ -77,27 +77,22 @@ impl Written for Patterns {
     }
 
     fn write(element: u64) -> Text {
-        text_of_pattern(element, pattern_digits())
+        text_of_pattern(element)
     }
 }
 
 /// A pattern has a hexadecimal digit for every four bits.
-fn pattern_digits() -> usize
-    ensures answer { result ≡ 16 }
-{
-    Patterns::WIDTH as usize / 4
-}
+const PATTERN_DIGITS: usize = Patterns::WIDTH as usize / 4;
 
-/// A pattern of so many digits at the front.
-fn read_pattern(bytes: &[u8], digits: usize) -> Result<Read<u64>, usize>
-    requires { digits ≡ 16 }
+/// A pattern at the front.
+fn read_pattern(bytes: &[u8]) -> Result<Read<u64>, usize>
     ensures answer { ReadsText pattern_shape pattern_text NoPattern bytes.now result }
     ensures law { Leads 112 pattern_shape NoPattern }
 {
-    let numeral = read_digits(bytes, 16, digits);
-    if numeral.count == digits {
+    let numeral = read_digits(bytes, 16, PATTERN_DIGITS);
+    if numeral.count == PATTERN_DIGITS {
         Ok(Read {
-            len: digits,
+            len: PATTERN_DIGITS,
             element: Some(numeral.number),
         })
     } else {
@@ -105,15 +100,14 @@ fn read_pattern(bytes: &[u8], digits: usize) -> Result<Read<u64>, usize>
     }
 }
 
-/// The pattern in so many digits.
-fn text_of_pattern(element: u64, digits: usize) -> Text
-    requires { digits ≡ 16 }
+/// The pattern in hexadecimal.
+fn text_of_pattern(element: u64) -> Text
     ensures bytes { text_of result ≡ pattern_text element }
     ensures limits { length (pattern_text element) ≤ 16 }
     ensures law { Stands 112 pattern_shape NoPattern (pattern_text element) (λ f. HoldsPattern f element) }
 {
     let mut text = Text::new();
-    text.put_digits(element, 16, digits);
+    text.put_digits(element, 16, PATTERN_DIGITS);
     text
 }
 

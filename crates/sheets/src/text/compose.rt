@@ -5,7 +5,7 @@ ghost use Rattle.sheets.specs.Outputs.{text_of, put, Fits, handed};
 
 use crate::digits::digit_byte;
 use crate::text::Text;
-use numbers::refusal::{Reason, Refusal, Side};
+use numbers::refusal::{Reason, Refusal};
 
 const ROOM: usize = 80;
 
@@ -79,11 +79,7 @@ impl Text {
     {
         let n = self.len;
         if out.len() < n {
-            return Err(Refusal {
-                reason: Reason::OutputShort,
-                place: n as u64,
-                side: Side::Neither,
-            });
+            return Err(Refusal::at(Reason::OutputShort, n as u64));
         }
         out[0..n].copy_from_slice(&self.bytes[0..n]);
         Ok(n)

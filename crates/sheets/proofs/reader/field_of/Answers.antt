@@ -15,7 +15,7 @@ returns-in-Err g c =
     let answer = c.in-Err.ensures.answer in
     let law = c.in-Err.ensures.law in
     let stop = subst (λ b. (n ≤ length b) × ((rest : _) → reach (g.K.Written.shape rest) b ≡ n)) cut answer in
-    let along = field_stop line at g.K.Kind.letter c.requires.1 c.requires.0 g.K.Written.shape g.K.Written.outside law n stop.1 in
+    let along = field_stop line at g.K.Kind.LETTER c.requires.1 c.requires.0 g.K.Written.shape g.K.Written.outside law n stop.1 in
     let is = c.misshapen.ensures.answer in
     record { answer = ((is.0, refl, is.2), omega (arith, is.1, stop.0, length-drop (at + 1) line), λ rest. along rest ∙ sym is.1) }
 
@@ -30,8 +30,8 @@ returns-in-Some g c =
     let digits : take (at + 1 + read.len - (at + 1)) (drop (at + 1) line) ≡ take read.len (drop (at + 1) line) = ap (λ k. take k (drop (at + 1) line)) len in
     record {
       answer =
-          field_some line at g.K.Kind.letter c.requires.1 c.requires.0 law read text_at c.in-Some.element c.in-Some.is c.field-field.result
-          (c.field-field.ensures.bytes ∙ ap (λ t. g.K.Kind.letter ∷ t) digits) c.field-field.ensures.answer c.field-field.ensures.limits (λ e. c.field-field.ensures.value (e ∙ sym digits));
+          field_some line at g.K.Kind.LETTER c.requires.1 c.requires.0 law read text_at c.in-Some.element c.in-Some.is c.field-field.result
+          (c.field-field.ensures.bytes ∙ ap (λ t. g.K.Kind.LETTER ∷ t) digits) c.field-field.ensures.answer c.field-field.ensures.limits (λ e. c.field-field.ensures.value (e ∙ sym digits));
     }
 
 pub returns-in-None : goal.returns-in-None
@@ -41,4 +41,4 @@ returns-in-None g c =
     let read = c.in-Ok.read in
     let law = c.in-Ok.ensures.law in
     let text_at : TextAt g.K.Written.shape g.K.Written.text g.K.Written.outside (drop (at + 1) line) read = subst (λ b. TextAt g.K.Written.shape g.K.Written.text g.K.Written.outside b read) (take_rest line (at + 1)) c.in-Ok.ensures.answer in
-    record { answer = field_none line at g.K.Kind.letter c.requires.1 c.requires.0 law read text_at c.in-None.is }
+    record { answer = field_none line at g.K.Kind.LETTER c.requires.1 c.requires.0 law read text_at c.in-None.is }

@@ -7,12 +7,12 @@ use Rattle.sheets.proofs.writer.put_field.Goals as goal
 pub returns : goal.returns
 returns g c =
     let before = text_of c.args.text.now in
-    let letter = g.K.Kind.letter in
+    let letter = g.K.Kind.LETTER in
     let text = g.K.Written.text c.args.element in
+    let letter-is : c.LETTER.result ≡ letter = c.LETTER.ensures in
     let short = c.write.ensures.limits in
     let room = c.requires in
     let t1 : text_of c.put_bytes.new.self ≡ before ++ (9 ∷ []) = put_on before (text_of c.put_bytes.new.self) before (9 ∷ []) c.put_bytes.ensures.bytes refl (omega arith) in
-    let letter-is : c.field_letter.result ≡ letter = c.field_letter.ensures.answer in
     let t2 : text_of c.put_byte.new.self ≡ (before ++ (9 ∷ [])) ++ (letter ∷ []) = put_on (text_of c.put_bytes.new.self) (text_of c.put_byte.new.self) (before ++ (9 ∷ [])) (letter ∷ []) (c.put_byte.ensures.bytes ∙ ap (λ b. put (text_of c.put_bytes.new.self) (b ∷ [])) letter-is) t1 (simp length-append (omega arith)) in
     let t3 : text_of c.put_text.new.self ≡ ((before ++ (9 ∷ [])) ++ (letter ∷ [])) ++ text = put_on (text_of c.put_byte.new.self) (text_of c.put_text.new.self) ((before ++ (9 ∷ [])) ++ (letter ∷ [])) text (c.put_text.ensures.bytes ∙ ap (put (text_of c.put_byte.new.self)) c.write.ensures.bytes) t2 (simp length-append (omega arith)) in
     let whole : text_of c.put_text.new.self ≡ before ++ (9 ∷ (letter ∷ text)) = t3 ∙ simp append_assoc in

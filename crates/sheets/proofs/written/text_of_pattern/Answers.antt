@@ -1,5 +1,5 @@
 -- The 16 last digits of the pattern.
-use Rattle.std.proofs.Common.{◌≡◌, [], refl, subst, arith, lit<, lit≤}
+use Rattle.std.proofs.Common.{[], refl, arith, lit<, lit≤}
 use Rattle.sheets.specs.Digits.{last_digits}
 use Rattle.sheets.specs.Elements.{pattern_text}
 use Rattle.sheets.specs.Outputs.{text_of}
@@ -15,10 +15,8 @@ unfolding pattern_text pattern_shape
 returns c =
     let element = c.args.element in
     let len = length_last 16 16 element in
-    let sixteen = c.requires in
-    let put_is = c.put_digits.ensures.bytes in
     record {
-      bytes = put_on (text_of c.new-text.result) (text_of c.put_digits.new.self) [] (last_digits 16 16 element) (subst (λ k. text_of c.put_digits.new.self ≡ Rattle.sheets.specs.Outputs.put (text_of c.new-text.result) (last_digits 16 k element)) sixteen put_is) c.new-text.ensures.bytes (omega arith);
+      bytes = put_on (text_of c.new-text.result) (text_of c.put_digits.new.self) [] (last_digits 16 16 element) c.put_digits.ensures.bytes c.new-text.ensures.bytes (omega arith);
       limits = omega arith;
       law = record { leads = pattern-leads; is_shape = digits_repeat 16 refl 16 (last_digits 16 16 element) (digits_last 16 16 element (lit< tt) (lit≤ tt)) len; inside = λ bad. bad; back = pattern-back element c.ranges.element.fits };
     }
