@@ -5,6 +5,7 @@ use lib.IntN.{+ℤ_assoc}
 use lib.ListN.{length-map}
 use lib.Signed.{quot_z}
 use Rattle.std.proofs.lemmas.Bool.{eq-eqb, ne_eqb, lt-ltb, le-ltb, cond-true, cond-false, cases_lt, cases_order}
+use Rattle.condensers.specs.declared.condenser.Condenser.{Ghosts as Condenser}
 use Rattle.numbers.specs.declared.factor.Factor.{Factor}
 use Rattle.numbers.specs.declared.piece.Piece.{Piece}
 use Rattle.numbers.specs.declared.refusal.Refusal.{Refusal}
@@ -170,13 +171,13 @@ module _ {X Y : Type 0} (value : X → Option ℤ) (valued : Y → Option ℤ) (
 
 -- what a call leaves, by its outcome
 
-module _ {C : Type 0} (total : C → ℤ) (count : C → ℕ) (before : C) (o : Outcome) (es : List Entry) where
-  pub refused_after : (e : Refusal) → Says o (Err e) → After total count before before o es
+module _ {C : Type 0} (m : Condenser C) (before : C) (o : Outcome) (es : List Entry) where
+  pub refused_after : (e : Refusal) → Says o (Err e) → After m before before o es
   refused_after e s = go o s
     where
-      go : (p : Outcome) → Says p (Err e) → After total count before before p es
+      go : (p : Outcome) → Says p (Err e) → After m before before p es
       go accepted k = absurd k
       go (refused code place side) k = refl
 
-  pub accepted_after : (after : C) → o ≡ accepted → After total count before after accepted es → After total count before after o es
-  accepted_after after h a = subst (λ (p : Outcome). After total count before after p es) (sym h) a
+  pub accepted_after : (after : C) → o ≡ accepted → After m before after accepted es → After m before after o es
+  accepted_after after h a = subst (λ (p : Outcome). After m before after p es) (sym h) a

@@ -4,4 +4,4 @@ pub mod Elements
 pub mod Playing
 mod Agreements
 pub mod LineTexts
-mod Entering
+mod EnteredLines

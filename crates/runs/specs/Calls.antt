@@ -1,5 +1,6 @@
 -- What a call on a run answers, and what it enters, from the capacity, the count and the call's elements alone. An element stands for its value in units, none where it has no finite one.
 use Rattle.std.specs.Prelude.{◌≡◌, ℕ, suc, ◌+◌, ◌-◌, Bool, cond, List, [], ◌∷◌, length, ℤ, pos, ◌+ℤ◌, ◌*ℤ◌, Some, None, Ok, Err, Option, Result, ◌==◌, int_div, nat_lt}
+use Rattle.condensers.specs.declared.condenser.Condenser.{Ghosts as Condenser}
 use Rattle.numbers.specs.declared.factor.Factor.{Factor}
 use Rattle.numbers.specs.declared.piece.Piece.{Piece}
 use Rattle.numbers.specs.declared.refusal.Refusal.{Refusal}
@@ -103,11 +104,11 @@ offered (slices withdrawn xs ys) = product_entries withdrawn xs ys
 offered (sheet_line reading) = line_entries reading
 
 -- a condenser before and after a call: an accepted one adds its products to total and count, a refused one changes nothing
-abbrev pub After : {C : Type 0} → (C → ℤ) → (C → ℕ) → C → C → Outcome → List Entry → Type 0
-After total count before after accepted es = (total after ≡ total before +ℤ entry_sum es) × (count after ≡ count before + length es)
-After total count before after (refused code place side) es = after ≡ before
+abbrev pub After : {C : Type 0} → Condenser C → C → C → Outcome → List Entry → Type 0
+After m before after accepted es = (m.total after ≡ m.total before +ℤ entry_sum es) × (m.count after ≡ m.count before + length es)
+After m before after (refused code place side) es = after ≡ before
 
--- a call on a run over a condenser of that capacity: what it answers and what it leaves
-pub record Made {C : Type 0} (capacity : ℕ) (total : C → ℤ) (count : C → ℕ) (before after : C) (call : ValueCall) (r : Result (Unit {0}) Refusal) : Type 0 where
-  pub answer : Says (call_outcome capacity (count before) call) r
-  pub after_is : After total count before after (call_outcome capacity (count before) call) (offered call)
+-- a call on a run over a condenser: what it answers and what it leaves
+pub record Made {C : Type 0} (m : Condenser C) (before after : C) (call : ValueCall) (r : Result (Unit {0}) Refusal) : Type 0 where
+  pub answer : Says (call_outcome m.capacity (m.count before) call) r
+  pub after_is : After m before after (call_outcome m.capacity (m.count before) call) (offered call)

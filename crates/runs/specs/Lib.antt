@@ -2,5 +2,6 @@
 pub mod Bags
 pub mod Calls
 pub mod Lines
+pub mod Entering
 pub mod Queues
 pub mod Agreement

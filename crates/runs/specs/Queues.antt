@@ -1,8 +1,10 @@
 -- Queues of calls, by the values of their elements: what each call answers, and the bag that they leave.
-use Rattle.std.specs.Prelude.{◌≡◌, ℕ, ◌+◌, true, false, List, [], ◌∷◌, ◌++◌, map, length, ℤ, Option, slice_set}
+use Rattle.std.specs.Prelude.{◌≡◌, ℕ, ◌+◌, true, false, List, [], ◌∷◌, ◌++◌, map, length, ℤ, Ok, Err, Option, Result, slice_set}
+use Rattle.condensers.specs.declared.condenser.Condenser.{Ghosts as Condenser}
 use Rattle.numbers.specs.Counts.{count_value}
 use Rattle.numbers.specs.Patterns.{pattern_value}
-use Rattle.runs.specs.declared.queue.Answer.{Answer}
+use Rattle.numbers.specs.Refusals.{code_of, side_of}
+use Rattle.numbers.specs.declared.refusal.Refusal.{Refusal}
 use Rattle.runs.specs.declared.queue.Call.{Call}
 use Rattle.runs.specs.declared.queue.Call.TheVariants.{Take, Withdraw, SheetLine}
 use Rattle.runs.specs.declared.queue.Elements.{Elements}
@@ -28,6 +30,17 @@ bag_from capacity bag (call ∷ calls) = bag_from capacity (bag_after capacity b
 -- the bag of a queue, from the capacity and the calls alone
 abbrev pub bag_of : ℕ → List ValueCall → List Entry
 bag_of capacity calls = bag_from capacity [] calls
+
+-- the numbers of an answer: code, place and side, all zero where the call was accepted
+pub record Answer : Type 0 where
+  pub code : ℕ
+  pub place : ℕ
+  pub side : ℕ
+
+-- the numbers that a call's result tells
+abbrev pub told : Result (Unit {0}) Refusal → Answer
+told (Ok _) = record { code = 0; place = 0; side = 0 }
+told (Err e) = record { code = code_of e.reason; place = e.place; side = side_of e.side }
 
 -- the numbers of an outcome
 abbrev pub answer_of : Outcome → Answer
@@ -63,14 +76,14 @@ written buffer k [] = buffer
 written buffer k (a ∷ more) = written (slice_set buffer k a) (k + 1) more
 
 -- a condenser that holds a bag: its total is the sum of the entries, its count their number
-pub record Holds {C : Type 0} (total : C → ℤ) (count : C → ℕ) (c : C) (bag : List Entry) : Type 0 where
-  pub total_is : total c ≡ entry_sum bag
-  pub count_is : count c ≡ length bag
+pub record Holds {C : Type 0} (m : Condenser C) (c : C) (bag : List Entry) : Type 0 where
+  pub total_is : m.total c ≡ entry_sum bag
+  pub count_is : m.count c ≡ length bag
 
 -- What is left to be played, from one condenser, buffer and place on, gives what the whole gives from another: the same bag and the same answers.
-pub record Resumes {C : Type 0} (capacity : ℕ) (total : C → ℤ) (count : C → ℕ) (whole : List ValueCall) (bag : List Entry) (buffer : List Answer) (place : ℕ)
+pub record Resumes {C : Type 0} (m : Condenser C) (whole : List ValueCall) (bag : List Entry) (buffer : List Answer) (place : ℕ)
     (left : List ValueCall) (c : C) (noted : List Answer) (next : ℕ) : Type 0 where
   pub now_in : List Entry
-  pub holds : Holds total count c now_in
-  pub same_bag : bag_from capacity bag whole ≡ bag_from capacity now_in left
-  pub same_answers : written buffer place (answers_from capacity bag whole) ≡ written noted next (answers_from capacity now_in left)
+  pub holds : Holds m c now_in
+  pub same_bag : bag_from m.capacity bag whole ≡ bag_from m.capacity now_in left
+  pub same_answers : written buffer place (answers_from m.capacity bag whole) ≡ written noted next (answers_from m.capacity now_in left)

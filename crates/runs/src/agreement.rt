@@ -1,10 +1,13 @@
 //! Two receivers: their queues played over condensers of any make, and their long readings.
-ghost use Rattle.std.specs.Prelude.{◌≡◌, length};
+ghost use Rattle.std.specs.Prelude.{◌≡◌, map, length};
+ghost use Rattle.std.specs.Float.{binary64};
+ghost use Rattle.readings.specs.Rounding.{Rounds};
 ghost use Rattle.runs.specs.Agreement.{Agree, AgreementByValues};
-ghost use Rattle.runs.specs.Queues.{bag_of, calls_of, answers_of, written};
+ghost use Rattle.runs.specs.Queues.{bag_of, calls_of, told, answers_of, written};
 
 use crate::play::play;
 use crate::queue::{Answer, Leg};
+use crate::run::Sealed;
 use condensers::condenser::Condenser;
 use readings::forms::Direction;
 
@@ -22,6 +25,19 @@ pub struct Reports {
     pub second: Report,
 }
 
+impl<C: Condenser + Drop> Sealed<C> {
+    /// The run's long reading and the products that were entered.
+    pub fn report(&self, direction: Direction) -> Report
+        ensures value { Rounds binary64 direction (C.Condenser.total self.now.condenser) result.reading }
+        ensures count { result.products ≡ C.Condenser.count self.now.condenser }
+    {
+        Report {
+            reading: self.read_long(direction),
+            products: self.products(),
+        }
+    }
+}
+
 /// Plays two queues, each over a condenser of its own make, and reads both totals in a direction.
 /// Where every number has the same net count in both bags, both readings are the same bits. Where the first bag has at least as many of every number
 /// above zero and as many of every number below, the first reading is not below the second.
@@ -36,7 +52,7 @@ pub fn compare_queues<C: Condenser + Drop, D: Condenser + Drop>(
 ) -> Reports
     ensures law { Agree direction (bag_of C.Condenser.capacity (calls_of first_queue.now)) (bag_of D.Condenser.capacity (calls_of second_queue.now)) result.first.reading result.second.reading }
     ensures count { (result.first.products ≡ length (bag_of C.Condenser.capacity (calls_of first_queue.now))) × (result.second.products ≡ length (bag_of D.Condenser.capacity (calls_of second_queue.now))) }
-    ensures answer { (first_answers.new ≡ written first_answers.old 0 (answers_of C.Condenser.capacity (calls_of first_queue.now))) × (second_answers.new ≡ written second_answers.old 0 (answers_of D.Condenser.capacity (calls_of second_queue.now))) }
+    ensures answer { (map told first_answers.new ≡ written (map told first_answers.old) 0 (answers_of C.Condenser.capacity (calls_of first_queue.now))) × (map told second_answers.new ≡ written (map told second_answers.old) 0 (answers_of D.Condenser.capacity (calls_of second_queue.now))) }
 {
     read_both(
         first,
@@ -61,19 +77,14 @@ fn read_both<C: Condenser + Drop, D: Condenser + Drop>(
 ) -> Reports
     ensures law { Agree direction (bag_of C.Condenser.capacity (calls_of first_queue.now)) (bag_of D.Condenser.capacity (calls_of second_queue.now)) result.first.reading result.second.reading }
     ensures count { (result.first.products ≡ length (bag_of C.Condenser.capacity (calls_of first_queue.now))) × (result.second.products ≡ length (bag_of D.Condenser.capacity (calls_of second_queue.now))) }
-    ensures answer { (first_answers.new ≡ written first_answers.old 0 (answers_of C.Condenser.capacity (calls_of first_queue.now))) × (second_answers.new ≡ written second_answers.old 0 (answers_of D.Condenser.capacity (calls_of second_queue.now))) }
+    ensures answer { (map told first_answers.new ≡ written (map told first_answers.old) 0 (answers_of C.Condenser.capacity (calls_of first_queue.now))) × (map told second_answers.new ≡ written (map told second_answers.old) 0 (answers_of D.Condenser.capacity (calls_of second_queue.now))) }
 {
     let one = play(first, first_queue, first_answers);
     let other = play(second, second_queue, second_answers);
-    let first = Report {
-        reading: one.read_long(direction),
-        products: one.products(),
-    };
-    let second = Report {
-        reading: other.read_long(direction),
-        products: other.products(),
-    };
-    Reports { first, second }
+    Reports {
+        first: one.report(direction),
+        second: other.report(direction),
+    }
 }
 
 /// The agreement over the values of elements, whatever kinds they are of.

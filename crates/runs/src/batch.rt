@@ -1,9 +1,11 @@
 //! Taking and withdrawing the products of two slices: all of them, or none.
 ghost use Rattle.std.specs.Prelude.{◌≡◌, ◌+◌, ◌≤◌, true, false, map, length};
+ghost use Rattle.runs.specs.Entering.{is_withdrawn};
 ghost use Rattle.runs.specs.Calls.{Says, accepted, elements_outcome, product_entries, After, Made, slices};
 
 use crate::checks::check_slices;
-use crate::element::{entering, piece_of};
+use crate::element::piece_at;
+use crate::entering::Entering;
 use crate::run::Open;
 use condensers::condenser::Condenser;
 use numbers::kind::Kind;
@@ -16,9 +18,9 @@ impl<C: Condenser + Drop> Open<C> {
         firsts: &[K::Element],
         seconds: &[L::Element],
     ) -> Result<(), Refusal>
-        ensures call { Made C.Condenser.capacity C.Condenser.total C.Condenser.count self.old.condenser self.new.condenser (slices false (map K.Kind.value firsts.now) (map L.Kind.value seconds.now)) result }
+        ensures call { Made C.Condenser self.old.condenser self.new.condenser (slices false (map K.Kind.value firsts.now) (map L.Kind.value seconds.now)) result }
     {
-        self.enter_products::<K, L>(false, firsts, seconds)
+        self.enter_products::<K, L>(Entering::Taken, firsts, seconds)
     }
 
     /// Withdraws the product of each index, or refuses and changes nothing.
@@ -27,19 +29,19 @@ impl<C: Condenser + Drop> Open<C> {
         firsts: &[K::Element],
         seconds: &[L::Element],
     ) -> Result<(), Refusal>
-        ensures call { Made C.Condenser.capacity C.Condenser.total C.Condenser.count self.old.condenser self.new.condenser (slices true (map K.Kind.value firsts.now) (map L.Kind.value seconds.now)) result }
+        ensures call { Made C.Condenser self.old.condenser self.new.condenser (slices true (map K.Kind.value firsts.now) (map L.Kind.value seconds.now)) result }
     {
-        self.enter_products::<K, L>(true, firsts, seconds)
+        self.enter_products::<K, L>(Entering::Withdrawn, firsts, seconds)
     }
 
     /// Tests everything, and then puts every product.
     fn enter_products<K: Kind, L: Kind>(
         &mut self,
-        withdrawn: bool,
+        entering: Entering,
         firsts: &[K::Element],
         seconds: &[L::Element],
     ) -> Result<(), Refusal>
-        ensures call { Made C.Condenser.capacity C.Condenser.total C.Condenser.count self.old.condenser self.new.condenser (slices withdrawn (map K.Kind.value firsts.now) (map L.Kind.value seconds.now)) result }
+        ensures call { Made C.Condenser self.old.condenser self.new.condenser (slices (is_withdrawn entering) (map K.Kind.value firsts.now) (map L.Kind.value seconds.now)) result }
     {
         check_slices::<K, L>(
             self.condenser.put_limit(),
@@ -47,13 +49,13 @@ impl<C: Condenser + Drop> Open<C> {
             firsts,
             seconds,
         )?;
-        self.put_products::<K, L>(withdrawn, firsts, seconds)
+        self.put_products::<K, L>(entering, firsts, seconds)
     }
 
     /// Puts the product of each index. Every test has passed, so none is refused.
     fn put_products<K: Kind, L: Kind>(
         &mut self,
-        withdrawn: bool,
+        entering: Entering,
         firsts: &[K::Element],
         seconds: &[L::Element],
     ) -> Result<(), Refusal>
@@ -61,11 +63,12 @@ impl<C: Condenser + Drop> Open<C> {
         requires room { C.Condenser.count self.old.condenser + length firsts.now ≤ C.Condenser.capacity }
         requires sound { elements_outcome 0 (map K.Kind.value firsts.now) (map L.Kind.value seconds.now) ≡ accepted }
         ensures answer { Says accepted result }
-        ensures after { After C.Condenser.total C.Condenser.count self.old.condenser self.new.condenser accepted (product_entries withdrawn (map K.Kind.value firsts.now) (map L.Kind.value seconds.now)) }
+        ensures after { After C.Condenser self.old.condenser self.new.condenser accepted (product_entries (is_withdrawn entering) (map K.Kind.value firsts.now) (map L.Kind.value seconds.now)) }
     {
+        // an index loop: the products enter in the order of the index
         for i in 0..firsts.len() {
-            let piece = piece_of::<K, L>(firsts[i], i as u64, seconds[i], i as u64)?;
-            self.condenser.put(entering(piece, withdrawn))?;
+            let product = piece_at::<K, L>(firsts[i], seconds[i], i as u64)?;
+            self.condenser.put(entering.piece(product))?;
         }
         Ok(())
     }

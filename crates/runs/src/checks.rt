@@ -2,29 +2,28 @@
 ghost use Rattle.std.specs.Prelude.{◌≡◌, map, length};
 ghost use Rattle.runs.specs.Calls.{Says, lengths_outcome, room_outcome, elements_outcome, slices_outcome};
 
-use crate::element::piece_of;
+use crate::element::piece_at;
 use numbers::kind::Kind;
 use numbers::refusal::{Reason, Refusal, Side};
+use std::cmp::Ordering;
 
 /// Refuses two lengths that differ: the shorter one, and its side.
 fn check_lengths(first: usize, second: usize) -> Result<(), Refusal>
     ensures answer { Says (lengths_outcome first second) result }
 {
-    if first < second {
-        return Err(Refusal {
+    match first.cmp(&second) {
+        Ordering::Less => Err(Refusal {
             reason: Reason::LengthsDiffer,
             place: first as u64,
             side: Side::First,
-        });
-    }
-    if second < first {
-        return Err(Refusal {
+        }),
+        Ordering::Greater => Err(Refusal {
             reason: Reason::LengthsDiffer,
             place: second as u64,
             side: Side::Second,
-        });
+        }),
+        Ordering::Equal => Ok(()),
     }
-    Ok(())
 }
 
 /// Refuses more products than fit: how many still do.
@@ -33,11 +32,7 @@ pub(crate) fn check_room(capacity: u64, count: u64, products: u64) -> Result<(),
 {
     let room = capacity.saturating_sub(count);
     if room < products {
-        return Err(Refusal {
-            reason: Reason::Full,
-            place: room,
-            side: Side::Neither,
-        });
+        return Err(Refusal::at(Reason::Full, room));
     }
     Ok(())
 }
@@ -50,8 +45,9 @@ fn check_elements<K: Kind, L: Kind>(
     requires { length firsts.now ≡ length seconds.now }
     ensures answer { Says (elements_outcome 0 (map K.Kind.value firsts.now) (map L.Kind.value seconds.now)) result }
 {
+    // an index loop: the elements are tested in the order of the index, the first slice before the second
     for i in 0..firsts.len() {
-        piece_of::<K, L>(firsts[i], i as u64, seconds[i], i as u64)?;
+        piece_at::<K, L>(firsts[i], seconds[i], i as u64)?;
     }
     Ok(())
 }

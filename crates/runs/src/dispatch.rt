@@ -1,8 +1,10 @@
 //! A call of a queue, made on an open run.
 ghost use Rattle.std.specs.Prelude.{map};
 ghost use Rattle.runs.specs.Calls.{Made, slices};
+ghost use Rattle.runs.specs.Entering.{is_withdrawn};
 ghost use Rattle.runs.specs.Queues.{value_call, values_of};
 
+use crate::entering::Entering;
 use crate::queue::{Call, Elements};
 use crate::run::Open;
 use condensers::condenser::Condenser;
@@ -14,11 +16,15 @@ use numbers::refusal::Refusal;
 impl<C: Condenser + Drop> Open<C> {
     /// Makes one call.
     pub fn call(&mut self, call: &Call) -> Result<(), Refusal>
-        ensures call { Made C.Condenser.capacity C.Condenser.total C.Condenser.count self.old.condenser self.new.condenser (value_call call.now) result }
+        ensures call { Made C.Condenser self.old.condenser self.new.condenser (value_call call.now) result }
     {
         match call {
-            Call::Take(firsts, seconds) => self.enter_elements(false, firsts, seconds),
-            Call::Withdraw(firsts, seconds) => self.enter_elements(true, firsts, seconds),
+            Call::Take(firsts, seconds) => self.enter_elements(Entering::Taken, firsts, seconds),
+            Call::Withdraw(firsts, seconds) => self.enter_elements(
+                Entering::Withdrawn,
+                firsts,
+                seconds,
+            ),
             Call::SheetLine(line) => self.enter(line),
         }
     }
@@ -26,48 +32,45 @@ impl<C: Condenser + Drop> Open<C> {
     /// The call on slices of the kinds that the elements have.
     fn enter_elements(
         &mut self,
-        withdrawn: bool,
+        entering: Entering,
         firsts: &Elements,
         seconds: &Elements,
     ) -> Result<(), Refusal>
-        ensures call { Made C.Condenser.capacity C.Condenser.total C.Condenser.count self.old.condenser self.new.condenser (slices withdrawn (values_of firsts.now) (values_of seconds.now)) result }
+        ensures call { Made C.Condenser self.old.condenser self.new.condenser (slices (is_withdrawn entering) (values_of firsts.now) (values_of seconds.now)) result }
     {
         match firsts {
-            Elements::Patterns(firsts) => self.enter_seconds::<Patterns>(
-                withdrawn, firsts, seconds,
-            ),
-            Elements::Counts(firsts) => self.enter_seconds::<Counts>(withdrawn, firsts, seconds),
+            Elements::Patterns(firsts) => self.enter_seconds::<Patterns>(entering, firsts, seconds),
+            Elements::Counts(firsts) => self.enter_seconds::<Counts>(entering, firsts, seconds),
         }
     }
 
     fn enter_seconds<K: Kind>(
         &mut self,
-        withdrawn: bool,
+        entering: Entering,
         firsts: &[K::Element],
         seconds: &Elements,
     ) -> Result<(), Refusal>
-        ensures call { Made C.Condenser.capacity C.Condenser.total C.Condenser.count self.old.condenser self.new.condenser (slices withdrawn (map K.Kind.value firsts.now) (values_of seconds.now)) result }
+        ensures call { Made C.Condenser self.old.condenser self.new.condenser (slices (is_withdrawn entering) (map K.Kind.value firsts.now) (values_of seconds.now)) result }
     {
         match seconds {
             Elements::Patterns(seconds) => self.enter_slices::<K, Patterns>(
-                withdrawn, firsts, seconds,
+                entering, firsts, seconds,
             ),
-            Elements::Counts(seconds) => self.enter_slices::<K, Counts>(withdrawn, firsts, seconds),
+            Elements::Counts(seconds) => self.enter_slices::<K, Counts>(entering, firsts, seconds),
         }
     }
 
     fn enter_slices<K: Kind, L: Kind>(
         &mut self,
-        withdrawn: bool,
+        entering: Entering,
         firsts: &[K::Element],
         seconds: &[L::Element],
     ) -> Result<(), Refusal>
-        ensures call { Made C.Condenser.capacity C.Condenser.total C.Condenser.count self.old.condenser self.new.condenser (slices withdrawn (map K.Kind.value firsts.now) (map L.Kind.value seconds.now)) result }
+        ensures call { Made C.Condenser self.old.condenser self.new.condenser (slices (is_withdrawn entering) (map K.Kind.value firsts.now) (map L.Kind.value seconds.now)) result }
     {
-        if withdrawn {
-            self.withdraw::<K, L>(firsts, seconds)
-        } else {
-            self.take::<K, L>(firsts, seconds)
+        match entering {
+            Entering::Taken => self.take::<K, L>(firsts, seconds),
+            Entering::Withdrawn => self.withdraw::<K, L>(firsts, seconds),
         }
     }
 }

@@ -6,6 +6,7 @@ pub mod batch;
 mod checks;
 pub mod dispatch;
 mod element;
+mod entering;
 pub mod line;
 pub mod play;
 pub mod queue;

@@ -9,9 +9,9 @@ pub returns : goal.returns
 returns g c =
     let d = c.args.direction in
     record {
-      law = agree d _ _ c.read_long.result c.read_long-2.result
-          (subst (λ (x : ℤ). Rounds binary64 d x c.read_long.result) c.play-one.ensures.total c.read_long.ensures.answer)
-          (subst (λ (x : ℤ). Rounds binary64 d x c.read_long-2.result) c.play-other.ensures.total c.read_long-2.ensures.answer);
-      count = (c.products.ensures.answer ∙ c.play-one.ensures.count, c.products-2.ensures.answer ∙ c.play-other.ensures.count);
+      law = agree d _ _ c.report.result.reading c.report-2.result.reading
+          (subst (λ (x : ℤ). Rounds binary64 d x c.report.result.reading) c.play-one.ensures.total c.report.ensures.value)
+          (subst (λ (x : ℤ). Rounds binary64 d x c.report-2.result.reading) c.play-other.ensures.total c.report-2.ensures.value);
+      count = (c.report.ensures.count ∙ c.play-one.ensures.count, c.report-2.ensures.count ∙ c.play-other.ensures.count);
       answer = (c.play-one.ensures.answer, c.play-other.ensures.answer);
     }

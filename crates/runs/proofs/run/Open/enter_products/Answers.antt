@@ -2,6 +2,7 @@
 use Rattle.std.proofs.Common.{ℕ, map, Ok, Err, sym, subst, ap₂}
 use Rattle.std.proofs.lemmas.Result.{err_from_is_err_and}
 use Rattle.runs.specs.Calls.{Outcome, Says, slices_outcome, product_entries}
+use Rattle.runs.specs.Entering.{is_withdrawn}
 use Rattle.runs.proofs.Elements.{says_ok, slices-accepted, refused_after, accepted_after}
 use Rattle.runs.proofs.run.Open.enter_products.Goals as goal
 
@@ -17,7 +18,7 @@ returns-in_err-check_slices g c =
     (record {
       call = record {
         answer = said;
-        after_is = refused_after g.C.Condenser.total g.C.Condenser.count c.args.self.now.condenser _ (product_entries c.args.withdrawn xs ys) e said;
+        after_is = refused_after g.C.Condenser c.args.self.now.condenser _ (product_entries (is_withdrawn c.args.entering) xs ys) e said;
       };
     })
 
@@ -39,6 +40,6 @@ returns g c =
     record {
       call = record {
         answer = subst (λ (o : Outcome). Says o c.put_products.result) (sym said) c.put_products.ensures.answer;
-        after_is = accepted_after g.C.Condenser.total g.C.Condenser.count c.args.self.now.condenser _ (product_entries c.args.withdrawn xs ys) _ said c.put_products.ensures.after;
+        after_is = accepted_after g.C.Condenser c.args.self.now.condenser _ (product_entries (is_withdrawn c.args.entering) xs ys) _ said c.put_products.ensures.after;
       };
     }

@@ -4,7 +4,7 @@ use Rattle.std.proofs.lemmas.Result.{err_from_is_err_and}
 use Rattle.runs.specs.Calls.{Outcome, Says, room_outcome}
 use Rattle.runs.specs.Lines.{line_reading}
 use Rattle.runs.proofs.Elements.{says_ok}
-use Rattle.runs.proofs.Entering.{made-misread, made-full, made_unfit, made-entered}
+use Rattle.runs.proofs.EnteredLines.{made-misread, made-full, made_unfit, made-entered}
 use Rattle.runs.proofs.LineTexts.{line_refused, line-accepted}
 use Rattle.runs.proofs.run.Open.enter_text.Goals as goal
 
@@ -15,7 +15,7 @@ returns-in_err-word g c =
     let m = line_refused c.args.line.now e c.in_err-word.ensures.answer in
     rw (p.1, p.2)
     (record {
-      call = made-misread g.C.Condenser.capacity g.C.Condenser.total g.C.Condenser.count c.args.self.now.condenser (line_reading c.args.line.now) e m.code m.place m.side m.reading m.refused_so;
+      call = made-misread g.C.Condenser c.args.self.now.condenser (line_reading c.args.line.now) e m.code m.place m.side m.reading m.refused_so;
     })
 
 pub returns-in_err-check_room : goal.returns-in_err-check_room
@@ -26,20 +26,20 @@ returns-in_err-check_room g c =
     let is = ap₂ (λ (m n : ℕ). room_outcome m n 1) c.put_limit.ensures.answer c.put_count.ensures.answer in
     let said = subst (λ (o : Outcome). Says o (Err e)) is c.in_err-check_room.ensures.answer in
     rw (p.1, p.2)
-    (record { call = made-full g.C.Condenser.capacity g.C.Condenser.total g.C.Condenser.count c.args.self.now.condenser (line_reading c.args.line.now) _ _ _ _ _ reading e said })
+    (record { call = made-full g.C.Condenser c.args.self.now.condenser (line_reading c.args.line.now) _ _ _ _ _ reading e said })
 
-pub returns-in_err-piece : goal.returns-in_err-piece
-returns-in_err-piece g c =
-    let p = err_from_is_err_and c.from_residual-in_err-piece.result c.from_residual-in_err-piece.ensures.1 in
-    let e = c.in_err-piece.field-0.0 in
+pub returns-in_err-product : goal.returns-in_err-product
+returns-in_err-product g c =
+    let p = err_from_is_err_and c.from_residual-in_err-product.result c.from_residual-in_err-product.ensures.1 in
+    let e = c.in_err-product.field-0.0 in
     let l = c.in_ok-word.ensures.answer in
     let reading = line-accepted c.args.line.now c.in_ok-word.field-0 l in
     let is = ap₂ (λ (m n : ℕ). room_outcome m n 1) c.put_limit.ensures.answer c.put_count.ensures.answer in
     let room = says_ok _ tt (subst (λ (o : Outcome). Says o (Ok tt)) is c.in_ok-check_room.ensures.answer) in
     rw (p.1, p.2)
     (record {
-      call = made_unfit g.C.Condenser.capacity g.C.Condenser.total g.C.Condenser.count c.args.self.now.condenser (line_reading c.args.line.now) _ _ _ _ _ reading e room
-          (c.in_err-piece.ensures.answer l.first_is.writes l.second_is.writes);
+      call = made_unfit g.C.Condenser c.args.self.now.condenser (line_reading c.args.line.now) _ _ _ _ _ reading e room
+          (c.in_err-product.ensures.answer _ _ _ _ (c.factor_of.ensures.answer l.first_is.writes) (c.factor_of-2.ensures.answer l.second_is.writes));
     })
 
 pub returns : goal.returns
@@ -48,9 +48,9 @@ returns g c =
     let reading = line-accepted c.args.line.now c.in_ok-word.field-0 l in
     let is = ap₂ (λ (m n : ℕ). room_outcome m n 1) c.put_limit.ensures.answer c.put_count.ensures.answer in
     let room = says_ok _ tt (subst (λ (o : Outcome). Says o (Ok tt)) is c.in_ok-check_room.ensures.answer) in
-    let made = c.in_ok-piece.ensures.answer l.first_is.writes l.second_is.writes in
-    let value = c.entering.ensures.value ∙ ap₂ (λ (w : Bool) (v : ℤ). cond w (neg_ℤ v) v) c.is_withdrawn.ensures.answer made.1 in
+    let made = c.in_ok-product.ensures.answer _ _ _ _ (c.factor_of.ensures.answer l.first_is.writes) (c.factor_of-2.ensures.answer l.second_is.writes) in
+    let value = c.piece.ensures.value ∙ ap₂ (λ (w : Bool) (v : ℤ). cond w (neg_ℤ v) v) c.from.ensures made.1 in
     record {
-      call = made-entered g.C.Condenser.capacity g.C.Condenser.total g.C.Condenser.count c.args.self.now.condenser (line_reading c.args.line.now) _ _ _ _ _ reading
-          c.put.new.self c.entering.result c.put.result (g.met.C.Condenser.count_within c.args.self.now.condenser) room made.0 value c.put.ensures.answer c.put.ensures.after;
+      call = made-entered g.C.Condenser c.args.self.now.condenser (line_reading c.args.line.now) _ _ _ _ _ reading
+          c.put.new.self c.piece.result c.put.result (g.met.C.Condenser.count_within c.args.self.now.condenser) room made.0 value c.put.ensures.answer c.put.ensures.after;
     }
