@@ -35,7 +35,7 @@ impl<C: Condenser + Drop> Open<C> {
     }
 
     /// Tests everything, and then puts every product.
-    fn enter_products<K: Kind, L: Kind>(
+    pub(crate) fn enter_products<K: Kind, L: Kind>(
         &mut self,
         entering: Entering,
         firsts: &[K::Element],

@@ -44,6 +44,7 @@ impl<C: Condenser + Drop> Open<C> {
         }
     }
 
+    /// The call on a slice of a kind and one of the kind that its elements have.
     fn enter_seconds<K: Kind>(
         &mut self,
         entering: Entering,
@@ -53,24 +54,12 @@ impl<C: Condenser + Drop> Open<C> {
         ensures call { Made C.Condenser self.old.condenser self.new.condenser (slices (is_withdrawn entering) (map K.Kind.value firsts.now) (values_of seconds.now)) result }
     {
         match seconds {
-            Elements::Patterns(seconds) => self.enter_slices::<K, Patterns>(
+            Elements::Patterns(seconds) => self.enter_products::<K, Patterns>(
                 entering, firsts, seconds,
             ),
-            Elements::Counts(seconds) => self.enter_slices::<K, Counts>(entering, firsts, seconds),
-        }
-    }
-
-    fn enter_slices<K: Kind, L: Kind>(
-        &mut self,
-        entering: Entering,
-        firsts: &[K::Element],
-        seconds: &[L::Element],
-    ) -> Result<(), Refusal>
-        ensures call { Made C.Condenser self.old.condenser self.new.condenser (slices (is_withdrawn entering) (map K.Kind.value firsts.now) (map L.Kind.value seconds.now)) result }
-    {
-        match entering {
-            Entering::Taken => self.take::<K, L>(firsts, seconds),
-            Entering::Withdrawn => self.withdraw::<K, L>(firsts, seconds),
+            Elements::Counts(seconds) => self.enter_products::<K, Counts>(
+                entering, firsts, seconds,
+            ),
         }
     }
 }
