@@ -1,7 +1,8 @@
 -- A sheet's run holds the bag of its lines, and each refused line is found under its number. Assumes nothing.
-use Rattle.std.proofs.Common.{◌≡◌, ℕ, zero, suc, ◌+◌, ◌-◌, ◌^◌, ◌<◌, Bool, true, false, cond, List, [], ◌∷◌, ◌++◌, map, length, take, drop, ℤ, Some, None, Ok, Err, Option, sym, refl, ap, ◌∙◌, subst, append_assoc, append-nil, add_comm, arith, length-append, length-drop, take_all, take-add}
+use Rattle.std.proofs.Common.{◌≡◌, ℕ, zero, suc, ◌+◌, ◌-◌, ◌^◌, ◌<◌, Bool, true, false, cond, eqb, List, [], ◌∷◌, ◌++◌, map, length, take, drop, Some, None, Ok, Err, Option, sym, refl, ap, ◌∙◌, subst, ap₂, append_assoc, append-nil, take-append-drop, add_comm, arith, length-append, length-drop, take_all}
 use mathlib.Core.List.{map-append}
-use Rattle.std.proofs.lemmas.Bool.{cond-true, cond-false}
+use Rattle.std.proofs.lemmas.Bool.{cond-true, cond-false, eqb-true}
+use Rattle.condensers.specs.declared.condenser.Condenser.{Ghosts as Condenser}
 use Rattle.numbers.specs.declared.refusal.Refusal.{Refusal}
 use Rattle.numbers.specs.Refusals.{code_of}
 use Rattle.sheets.specs.declared.splitter.Splitter.{Splitter}
@@ -43,23 +44,23 @@ refusals_push capacity ls l n h =
 
 -- a line that is entered
 
-module _ {C : Type 0} (capacity : ℕ) (total : C → ℤ) (count : C → ℕ) (before after : C) (line : List ℕ) (n : ℕ) (bag : List Entry) (h : Holds total count before bag) where
-  pub enters_ok : Made capacity total count before after (line_call line) (Ok tt) → Enters capacity total count bag line n after None
-  enters_ok m =
+module _ {C : Type 0} (m : Condenser C) (before after : C) (line : List ℕ) (n : ℕ) (bag : List Entry) (h : Holds m before bag) where
+  pub enters_ok : Made m before after (line_call line) (Ok tt) → Enters m bag line n after None
+  enters_ok made =
       record {
-        holds = made_holds capacity total count before after (line_call line) (Ok tt) bag m h;
-        refused_is = subst (λ (k : ℕ). [] ≡ refused_as n (call_outcome capacity k (line_call line))) h.count_is (go (call_outcome capacity (count before) (line_call line)) m.answer);
+        holds = made_holds m before after (line_call line) (Ok tt) bag made h;
+        refused_is = subst (λ (k : ℕ). [] ≡ refused_as n (call_outcome m.capacity k (line_call line))) h.count_is (go (call_outcome m.capacity (m.count before) (line_call line)) made.answer);
       }
     where
       go : (o : Outcome) → Says o (Ok tt) → [] ≡ refused_as n o
       go accepted s = refl
       go (refused code place side) s = absurd s
 
-  pub enters_err : (e : Refusal) → Made capacity total count before after (line_call line) (Err e) → (r : RefusedLine) → r ≡ record { line = n; code = code_of e.reason; place = e.place } → Enters capacity total count bag line n after (Some r)
-  enters_err e m r is =
+  pub enters_err : (e : Refusal) → Made m before after (line_call line) (Err e) → (r : RefusedLine) → r.line ≡ n → r.refusal ≡ e → Enters m bag line n after (Some r)
+  enters_err e made r number refusal =
       record {
-        holds = made_holds capacity total count before after (line_call line) (Err e) bag m h;
-        refused_is = ap (λ (x : RefusedLine). x ∷ []) is ∙ subst (λ (k : ℕ). (record { line = n; code = code_of e.reason; place = e.place } ∷ []) ≡ refused_as n (call_outcome capacity k (line_call line))) h.count_is (go (call_outcome capacity (count before) (line_call line)) m.answer);
+        holds = made_holds m before after (line_call line) (Err e) bag made h;
+        refused_is = ap₂ (λ (k : ℕ) (x : Refusal). record { line = k; code = code_of x.reason; place = x.place } ∷ []) number refusal ∙ subst (λ (k : ℕ). (record { line = n; code = code_of e.reason; place = e.place } ∷ []) ≡ refused_as n (call_outcome m.capacity k (line_call line))) h.count_is (go (call_outcome m.capacity (m.count before) (line_call line)) made.answer);
       }
     where
       go : (o : Outcome) → Says o (Err e) → (record { line = n; code = code_of e.reason; place = e.place } ∷ []) ≡ refused_as n o
@@ -92,13 +93,13 @@ module _ (past chunk : List ℕ) (r : ℕ) (s s' : Splitter) (a : After past s) 
 
 -- one line more
 
-module _ {C : Type 0} (capacity : ℕ) (total : C → ℤ) (count : C → ℕ) (lines : List (List ℕ)) (l : List ℕ) (n : ℕ) (after : C) (r : Option RefusedLine)
-    (en : Enters capacity total count (lines_bag capacity lines) l n after r) where
-  pub holds_more : Holds total count after (lines_bag capacity (lines ++ (l ∷ [])))
-  holds_more = subst (Holds total count after) (sym (lines_push capacity lines l)) en.holds
+module _ {C : Type 0} (m : Condenser C) (lines : List (List ℕ)) (l : List ℕ) (n : ℕ) (after : C) (r : Option RefusedLine)
+    (en : Enters m (lines_bag m.capacity lines) l n after r) where
+  pub holds_more : Holds m after (lines_bag m.capacity (lines ++ (l ∷ [])))
+  holds_more = subst (Holds m after) (sym (lines_push m.capacity lines l)) en.holds
 
-  pub refusals_more : n ≡ length lines + 1 → refusals capacity (lines ++ (l ∷ [])) ≡ refusals capacity lines ++ listed r
-  refusals_more h = refusals_push capacity lines l n h ∙ ap (λ rs. refusals capacity lines ++ rs) (sym en.refused_is)
+  pub refusals_more : n ≡ length lines + 1 → refusals m.capacity (lines ++ (l ∷ [])) ≡ refusals m.capacity lines ++ listed r
+  refusals_more h = refusals_push m.capacity lines l n h ∙ ap (λ rs. refusals m.capacity lines ++ rs) (sym en.refused_is)
 
 -- the end of a sheet
 
@@ -149,5 +150,17 @@ pub left_is : (l : List ℕ) (i : ℕ) → take (length l - i) (drop i l) ≡ dr
 left_is l i = take_all (length l - i) (drop i l) (omega (arith, length-drop i l))
 
 -- some of what is left joins what came before it
-pub next_part : (past l : List ℕ) (i n : ℕ) → (past ++ take i l) ++ take n (take (length l - i) (drop i l)) ≡ past ++ take (i + n) l
-next_part past l i n = append_assoc past (take i l) _ ∙ ap (λ (k : List ℕ). past ++ (take i l ++ take n k)) (left_is l i) ∙ ap (λ (k : List ℕ). past ++ k) (sym (take-add i n l))
+pub next_part : (fed rest whole : List ℕ) (n : ℕ) → (fed ++ rest) ≡ whole → ((fed ++ take n rest) ++ drop n rest) ≡ whole
+next_part fed rest whole n h = append_assoc fed (take n rest) (drop n rest) ∙ ap (λ (k : List ℕ). fed ++ k) (take-append-drop n rest) ∙ h
+
+-- where nothing is left, all was fed
+pub none_left : (fed rest whole : List ℕ) → (fed ++ rest) ≡ whole → true ≡ eqb (length rest) 0 → fed ≡ whole
+none_left fed [] whole h e = sym (append-nil fed) ∙ h
+none_left fed (x ∷ rest) whole h e = absurd (omega (arith, eqb-true (length (x ∷ rest)) 0 (sym e)))
+
+-- each turn takes some of what is left
+pub fewer_left : (rest : List ℕ) (n : ℕ) → false ≡ eqb (length rest) 0 → (0 < length rest → 0 < n) → length (take (length rest - n) (drop n rest)) < length rest
+fewer_left [] n e some = (cc)
+fewer_left (x ∷ rest) n e some =
+    let taken : 0 < n = some (omega arith) in
+    omega (arith, ap length (left_is (x ∷ rest) n), length-drop n (x ∷ rest))

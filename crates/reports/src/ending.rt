@@ -2,25 +2,25 @@
 ghost use Rattle.std.specs.Prelude.{◌≡◌, length};
 ghost use Rattle.sheets.specs.Outputs.{Fits, handed};
 ghost use Rattle.sheets.specs.Reports.{refused_report};
-ghost use Rattle.std.specs.Float.{binary64};
-ghost use Rattle.readings.specs.declared.forms.Direction.TheVariants.{Nearest};
-ghost use Rattle.readings.specs.Rounding.{Rounds};
+ghost use Rattle.numbers.specs.Refusals.{code_of};
 ghost use Rattle.reports.specs.Sheets.{SumWritten};
 
 use crate::sheet::RefusedLine;
 use condensers::condenser::Condenser;
 use numbers::refusal::Refusal;
 use readings::forms::Direction;
+use runs::agreement::Report;
 use runs::run::Sealed;
 use sheets::reports::{write_refused, write_sum};
 
 impl RefusedLine {
     /// The report of the line.
     pub fn write(self, out: &mut [u8]) -> Result<usize, Refusal>
-        ensures answer { Fits (refused_report self.line self.code self.place) (length out.old) result }
-        ensures bytes { out.new ≡ handed (refused_report self.line self.code self.place) out.old }
+        ensures answer { Fits (refused_report self.line (code_of self.refusal.reason) self.refusal.place) (length out.old) result }
+        ensures bytes { out.new ≡ handed (refused_report self.line (code_of self.refusal.reason) self.refusal.place) out.old }
     {
-        write_refused(self.line, self.code, self.place, out)
+        let Refusal { reason, place, .. } = self.refusal;
+        write_refused(self.line, reason.code(), place, out)
     }
 }
 
@@ -34,23 +34,6 @@ pub fn write_total<C: Condenser + Drop>(run: &Sealed<C>, out: &mut [u8]) -> Resu
 fn write_run<C: Condenser + Drop>(run: &Sealed<C>, out: &mut [u8]) -> Result<usize, Refusal>
     ensures answer { SumWritten (C.Condenser.total run.now.condenser) (C.Condenser.count run.now.condenser) out.old out.new result }
 {
-    let Sum { pattern, products } = sum_of(run);
-    write_sum(pattern, products, out)
-}
-
-/// What the sum report tells.
-#[derive(Clone, Copy)]
-struct Sum {
-    pattern: u64,
-    products: u64,
-}
-
-fn sum_of<C: Condenser + Drop>(run: &Sealed<C>) -> Sum
-    ensures value { Rounds binary64 Nearest (C.Condenser.total run.now.condenser) result.pattern }
-    ensures count { result.products ≡ C.Condenser.count run.now.condenser }
-{
-    Sum {
-        pattern: run.read_long(Direction::Nearest),
-        products: run.products(),
-    }
+    let Report { reading, products } = run.report(Direction::Nearest);
+    write_sum(reading, products, out)
 }

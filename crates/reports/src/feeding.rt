@@ -13,14 +13,14 @@ use sheets::splitter::Splitter;
 impl<C: Condenser + Drop> Sheet<C> {
     /// A sheet of which nothing has come in, over a condenser, which is emptied.
     pub fn new(condenser: C) -> Sheet<C>
-        ensures law { Stands C.Condenser.capacity C.Condenser.total C.Condenser.count [] result }
+        ensures law { Stands C.Condenser [] result }
     {
         Sheet::begin(condenser)
     }
 
     /// A run that is opened, and a splitter before its first line.
     fn begin(condenser: C) -> Sheet<C>
-        ensures law { Stands C.Condenser.capacity C.Condenser.total C.Condenser.count [] result }
+        ensures law { Stands C.Condenser [] result }
     {
         Sheet {
             run: Open::new(condenser),
@@ -32,8 +32,8 @@ impl<C: Condenser + Drop> Sheet<C> {
     pub fn feed(&mut self, chunk: &[u8]) -> Fed
         ensures limits { (result.taken ≤ length chunk.now) × (0 < length chunk.now → 0 < result.taken) }
         ensures lines { Took self.old.lines chunk.now result.taken self.new.lines }
-        ensures law { (past : List ℕ) → Stands C.Condenser.capacity C.Condenser.total C.Condenser.count past self.old → Stands C.Condenser.capacity C.Condenser.total C.Condenser.count (past ++ take result.taken chunk.now) self.new }
-        ensures answer { (past : List ℕ) → Stands C.Condenser.capacity C.Condenser.total C.Condenser.count past self.old → length (ended [] past) + 1 < 2 ^ 64 → refusals C.Condenser.capacity (ended [] (past ++ take result.taken chunk.now)) ≡ refusals C.Condenser.capacity (ended [] past) ++ listed result.refused }
+        ensures law { (past : List ℕ) → Stands C.Condenser past self.old → Stands C.Condenser (past ++ take result.taken chunk.now) self.new }
+        ensures answer { (past : List ℕ) → Stands C.Condenser past self.old → length (ended [] past) + 1 < 2 ^ 64 → refusals C.Condenser.capacity (ended [] (past ++ take result.taken chunk.now)) ≡ refusals C.Condenser.capacity (ended [] past) ++ listed result.refused }
     {
         self.feed_line(chunk)
     }
@@ -42,8 +42,8 @@ impl<C: Condenser + Drop> Sheet<C> {
     fn feed_line(&mut self, chunk: &[u8]) -> Fed
         ensures limits { (result.taken ≤ length chunk.now) × (0 < length chunk.now → 0 < result.taken) }
         ensures lines { Took self.old.lines chunk.now result.taken self.new.lines }
-        ensures law { (past : List ℕ) → Stands C.Condenser.capacity C.Condenser.total C.Condenser.count past self.old → Stands C.Condenser.capacity C.Condenser.total C.Condenser.count (past ++ take result.taken chunk.now) self.new }
-        ensures answer { (past : List ℕ) → Stands C.Condenser.capacity C.Condenser.total C.Condenser.count past self.old → length (ended [] past) + 1 < 2 ^ 64 → refusals C.Condenser.capacity (ended [] (past ++ take result.taken chunk.now)) ≡ refusals C.Condenser.capacity (ended [] past) ++ listed result.refused }
+        ensures law { (past : List ℕ) → Stands C.Condenser past self.old → Stands C.Condenser (past ++ take result.taken chunk.now) self.new }
+        ensures answer { (past : List ℕ) → Stands C.Condenser past self.old → length (ended [] past) + 1 < 2 ^ 64 → refusals C.Condenser.capacity (ended [] (past ++ take result.taken chunk.now)) ≡ refusals C.Condenser.capacity (ended [] past) ++ listed result.refused }
     {
         let taken = self.lines.take(chunk);
         if self.lines.is_complete() {
@@ -58,16 +58,16 @@ impl<C: Condenser + Drop> Sheet<C> {
 
     /// Ends the sheet: bytes behind the last line feed form a line.
     pub fn finish(self) -> Finished<C>
-        ensures answer { (past : List ℕ) → Stands C.Condenser.capacity C.Condenser.total C.Condenser.count past self → length (ended [] past) + 1 < 2 ^ 64 → refusals C.Condenser.capacity (sheet_lines past) ≡ refusals C.Condenser.capacity (ended [] past) ++ listed result.refused }
-        ensures after { (past : List ℕ) → Stands C.Condenser.capacity C.Condenser.total C.Condenser.count past self → Holds C.Condenser.total C.Condenser.count result.run.condenser (lines_bag C.Condenser.capacity (sheet_lines past)) }
+        ensures answer { (past : List ℕ) → Stands C.Condenser past self → length (ended [] past) + 1 < 2 ^ 64 → refusals C.Condenser.capacity (sheet_lines past) ≡ refusals C.Condenser.capacity (ended [] past) ++ listed result.refused }
+        ensures after { (past : List ℕ) → Stands C.Condenser past self → Holds C.Condenser result.run.condenser (lines_bag C.Condenser.capacity (sheet_lines past)) }
     {
         self.finish_rest()
     }
 
     /// The last line, where there is one, and the run sealed.
     fn finish_rest(self) -> Finished<C>
-        ensures answer { (past : List ℕ) → Stands C.Condenser.capacity C.Condenser.total C.Condenser.count past self → length (ended [] past) + 1 < 2 ^ 64 → refusals C.Condenser.capacity (sheet_lines past) ≡ refusals C.Condenser.capacity (ended [] past) ++ listed result.refused }
-        ensures after { (past : List ℕ) → Stands C.Condenser.capacity C.Condenser.total C.Condenser.count past self → Holds C.Condenser.total C.Condenser.count result.run.condenser (lines_bag C.Condenser.capacity (sheet_lines past)) }
+        ensures answer { (past : List ℕ) → Stands C.Condenser past self → length (ended [] past) + 1 < 2 ^ 64 → refusals C.Condenser.capacity (sheet_lines past) ≡ refusals C.Condenser.capacity (ended [] past) ++ listed result.refused }
+        ensures after { (past : List ℕ) → Stands C.Condenser past self → Holds C.Condenser result.run.condenser (lines_bag C.Condenser.capacity (sheet_lines past)) }
     {
         let Sheet { run, lines } = self;
         let mut run = run;
@@ -94,14 +94,13 @@ pub struct Finished<C> {
 
 /// Enters the line that the splitter holds.
 fn enter_held<C: Condenser + Drop>(run: &mut Open<C>, lines: &Splitter) -> Option<RefusedLine>
-    ensures after { (bag : List Entry) → Holds C.Condenser.total C.Condenser.count run.old.condenser bag → Enters C.Condenser.capacity C.Condenser.total C.Condenser.count bag (held lines.now) lines.now.number run.new.condenser result }
+    ensures after { (bag : List Entry) → Holds C.Condenser run.old.condenser bag → Enters C.Condenser bag (held lines.now) lines.now.number run.new.condenser result }
 {
     match run.enter(lines.line()) {
         Ok(()) => None,
         Err(refusal) => Some(RefusedLine {
             line: lines.number(),
-            code: refusal.reason.code(),
-            place: refusal.place,
+            refusal,
         }),
     }
 }

@@ -9,7 +9,7 @@ use crate::feeding::Finished;
 use crate::sheet::{Fed, RefusedLine, Sheet};
 use condensers::column_table::ColumnTable;
 use condensers::condenser::Condenser;
-use numbers::refusal::{Reason, Refusal, Side};
+use numbers::refusal::{Reason, Refusal};
 use runs::run::Sealed;
 
 /// The reports of a sheet, one behind the other: of each refused line, and of the sum. Where the slice is too short, nothing is written.
@@ -25,11 +25,7 @@ fn write_reports(sheet: &[u8], out: &mut [u8]) -> Result<usize, Refusal>
 {
     let needed = append_all(ColumnTable::new(), sheet, &mut []);
     if needed > out.len() {
-        return Err(Refusal {
-            reason: Reason::OutputShort,
-            place: needed as u64,
-            side: Side::Neither,
-        });
+        return Err(Refusal::at(Reason::OutputShort, needed as u64));
     }
     Ok(append_all(ColumnTable::new(), sheet, out))
 }
@@ -39,12 +35,12 @@ fn append_all<C: Condenser + Drop>(condenser: C, sheet: &[u8], out: &mut [u8]) -
     ensures after { Reported C.Condenser.capacity sheet.now out.old out.new result }
 {
     let mut fed = Sheet::new(condenser);
-    let mut at = 0;
+    let mut rest = sheet;
     let mut end = 0;
-    while at < sheet.len() {
-        let Fed { taken, refused } = fed.feed(&sheet[at..]);
+    while !rest.is_empty() {
+        let Fed { taken, refused } = fed.feed(rest);
         end = append_refused(refused, out, end);
-        at += taken;
+        rest = &rest[taken..];
     }
     let Finished { run, refused } = fed.finish();
     end = append_refused(refused, out, end);
@@ -74,8 +70,5 @@ fn append_total<C: Condenser + Drop>(run: &Sealed<C>, out: &mut [u8], end: usize
 fn length_of(written: Result<usize, Refusal>) -> usize
     ensures answer { (text : List ℕ) (room : ℕ) → Fits text room written → result ≡ length text }
 {
-    match written {
-        Ok(length) => length,
-        Err(refusal) => refusal.place as usize,
-    }
+    written.unwrap_or_else(|refusal| refusal.place as usize)
 }

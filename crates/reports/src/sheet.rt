@@ -1,4 +1,5 @@
 //! A sheet under way: the run that its lines enter, and the line that is not ended yet.
+use numbers::refusal::Refusal;
 use runs::run::Open;
 use sheets::splitter::Splitter;
 
@@ -9,12 +10,11 @@ pub struct Sheet<C> {
     pub(crate) lines: Splitter,
 }
 
-/// A line that was refused: its number, counted from 1, and the code and the place of the refusal.
+/// A line that was refused: its number, counted from 1, and the refusal.
 #[derive(Clone, Copy, PartialEq, Eq, Debug)]
 pub struct RefusedLine {
     pub line: u64,
-    pub code: u64,
-    pub place: u64,
+    pub refusal: Refusal,
 }
 
 /// What feeding a chunk did: how many of its bytes were taken, and the line that they ended, if it was refused.

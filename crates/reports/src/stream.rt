@@ -7,8 +7,9 @@ ghost use Rattle.reports.specs.Sheets.{lines_bag, Stands};
 use crate::ending::write_total;
 use crate::feeding::Finished;
 use crate::sheet::{Fed, RefusedLine, Sheet};
-use anyhow::anyhow;
+use anyhow::{Context, anyhow};
 use condensers::condenser::Condenser;
+use numbers::refusal::Refusal;
 use runs::run::Sealed;
 use std::io::Write;
 
@@ -18,35 +19,31 @@ const ROOM: usize = 64;
 impl<C: Condenser + Drop> Sheet<C> {
     /// Feeds a part of the sheet and writes the report of each line that is refused.
     pub fn report_part<W: Write>(&mut self, bytes: &[u8], out: &mut W) -> anyhow::Result<()>
-        ensures after { is_ok result ≡ true → (past : List ℕ) → Stands C.Condenser.capacity C.Condenser.total C.Condenser.count past self.old → Stands C.Condenser.capacity C.Condenser.total C.Condenser.count (past ++ bytes.now) self.new }
+        ensures after { is_ok result ≡ true → (past : List ℕ) → Stands C.Condenser past self.old → Stands C.Condenser (past ++ bytes.now) self.new }
     {
         self.report_lines(bytes, out)
     }
 
     /// Line by line.
     fn report_lines<W: Write>(&mut self, bytes: &[u8], out: &mut W) -> anyhow::Result<()>
-        ensures after { is_ok result ≡ true → (past : List ℕ) → Stands C.Condenser.capacity C.Condenser.total C.Condenser.count past self.old → Stands C.Condenser.capacity C.Condenser.total C.Condenser.count (past ++ bytes.now) self.new }
+        ensures after { is_ok result ≡ true → (past : List ℕ) → Stands C.Condenser past self.old → Stands C.Condenser (past ++ bytes.now) self.new }
     {
-        let mut at = 0;
-        while at < bytes.len() {
-            let Fed { taken, refused } = self.feed(&bytes[at..]);
+        let mut rest = bytes;
+        while !rest.is_empty() {
+            let Fed { taken, refused } = self.feed(rest);
             report_line(refused, out)?;
-            at += taken;
+            rest = &rest[taken..];
         }
         Ok(())
     }
 
     /// Ends the sheet, writes what is left of its report, and hands out its run, sealed.
     pub fn report_end<W: Write>(self, out: &mut W) -> anyhow::Result<Sealed<C>>
-        ensures after { IfOk result (λ run. (past : List ℕ) → Stands C.Condenser.capacity C.Condenser.total C.Condenser.count past self → Holds C.Condenser.total C.Condenser.count run.condenser (lines_bag C.Condenser.capacity (sheet_lines past))) }
+        ensures after { IfOk result (λ run. (past : List ℕ) → Stands C.Condenser past self → Holds C.Condenser run.condenser (lines_bag C.Condenser.capacity (sheet_lines past))) }
     {
         let Finished { run, refused } = self.finish();
         report_line(refused, out)?;
-        let mut text = [0; ROOM];
-        let Ok(length) = write_total(&run, &mut text) else {
-            return Err(anyhow!("no room for the report"));
-        };
-        out.write_all(&text[0..length])?;
+        write_report(out, |text| write_total(&run, text))?;
         Ok(run)
     }
 }
@@ -56,10 +53,21 @@ fn report_line<W: Write>(refused: Option<RefusedLine>, out: &mut W) -> anyhow::R
     let Some(line) = refused else {
         return Ok(());
     };
+    write_report(out, |text| line.write(text))
+}
+
+/// The report that is composed in a slice.
+fn write_report<W: Write, F: FnOnce(&mut [u8]) -> Result<usize, Refusal>>(
+    out: &mut W,
+    compose: F,
+) -> anyhow::Result<()>
+    requires { F.IsAlwaysCallable compose }
+{
     let mut text = [0; ROOM];
-    let Ok(length) = line.write(&mut text) else {
+    let length = compose(&mut text).context("no room for the report")?;
+    let Some(report) = text.get(..length) else {
         return Err(anyhow!("no room for the report"));
     };
-    out.write_all(&text[0..length])?;
+    out.write_all(report)?;
     Ok(())
 }

@@ -6,12 +6,12 @@ use Rattle.reports.proofs.ending.write_run.Goals as goal
 
 pub returns : goal.returns
 returns g c =
-    let count = c.sum_of-pattern.ensures.count in
+    let count = c.report-reading.ensures.count in
     record {
       answer = record {
-        pattern = c.sum_of-pattern.result.pattern;
-        rounds = c.sum_of-pattern.ensures.value;
-        answer = subst (λ (n : ℕ). Fits (sum_report c.sum_of-pattern.result.pattern n) (length c.args.out.now) c.write_sum.result) count c.write_sum.ensures.answer;
-        bytes = subst (λ (n : ℕ). c.write_sum.new.out ≡ handed (sum_report c.sum_of-pattern.result.pattern n) c.args.out.now) count c.write_sum.ensures.bytes;
+        pattern = c.report-reading.result.reading;
+        rounds = c.report-reading.ensures.value;
+        answer = subst (λ (n : ℕ). Fits (sum_report c.report-reading.result.reading n) (length c.args.out.now) c.write_sum.result) count c.write_sum.ensures.answer;
+        bytes = subst (λ (n : ℕ). c.write_sum.new.out ≡ handed (sum_report c.report-reading.result.reading n) c.args.out.now) count c.write_sum.ensures.bytes;
       };
     }

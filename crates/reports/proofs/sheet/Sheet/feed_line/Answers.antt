@@ -8,9 +8,8 @@ use Rattle.reports.proofs.sheet.Sheet.feed_line.Goals as goal
 
 pub returns-then-is_complete : goal.returns-then-is_complete
 returns-then-is_complete g c =
+    let m = g.C.Condenser in
     let cap = g.C.Condenser.capacity in
-    let total = g.C.Condenser.total in
-    let count = g.C.Condenser.count in
     let took = c.take-taken.ensures.answer in
     let s = c.args.self.now.lines in
     let s2 = c.take-taken.new.self in
@@ -23,20 +22,19 @@ returns-then-is_complete g c =
       law = λ past st.
           record {
             lines_are = c.take-taken.ensures.after past st.lines_are;
-            holds = subst (λ (ls : List (List ℕ)). Holds total count c.enter_held-refused.new.run.condenser (lines_bag cap ls)) (sym (one_ended past chunk r s s2 st.lines_are took full))
-                (holds_more cap total count (ended [] past) _ _ c.enter_held-refused.new.run.condenser c.enter_held-refused.result (c.enter_held-refused.ensures.after _ st.holds));
+            holds = subst (λ (ls : List (List ℕ)). Holds m c.enter_held-refused.new.run.condenser (lines_bag cap ls)) (sym (one_ended past chunk r s s2 st.lines_are took full))
+                (holds_more m (ended [] past) _ _ c.enter_held-refused.new.run.condenser c.enter_held-refused.result (c.enter_held-refused.ensures.after _ st.holds));
           };
       answer = λ past st few.
           ap (refusals cap) (one_ended past chunk r s s2 st.lines_are took full)
-          ∙ refusals_more cap total count (ended [] past) _ _ c.enter_held-refused.new.run.condenser c.enter_held-refused.result (c.enter_held-refused.ensures.after _ st.holds)
+          ∙ refusals_more m (ended [] past) _ _ c.enter_held-refused.new.run.condenser c.enter_held-refused.result (c.enter_held-refused.ensures.after _ st.holds)
           (number_is past chunk r s s2 st.lines_are took full (c.take-taken.ensures.after past st.lines_are) few);
     }
 
 pub returns : goal.returns
 returns g c =
+    let m = g.C.Condenser in
     let cap = g.C.Condenser.capacity in
-    let total = g.C.Condenser.total in
-    let count = g.C.Condenser.count in
     let took = c.take-taken.ensures.answer in
     let s = c.args.self.now.lines in
     let s2 = c.take-taken.new.self in
@@ -49,7 +47,7 @@ returns g c =
       law = λ past st.
           record {
             lines_are = c.take-taken.ensures.after past st.lines_are;
-            holds = subst (λ (ls : List (List ℕ)). Holds total count c.args.self.now.run.condenser (lines_bag cap ls)) (sym (none-ended past chunk r s s2 st.lines_are took part)) st.holds;
+            holds = subst (λ (ls : List (List ℕ)). Holds m c.args.self.now.run.condenser (lines_bag cap ls)) (sym (none-ended past chunk r s s2 st.lines_are took part)) st.holds;
           };
       answer = λ past st few. ap (refusals cap) (none-ended past chunk r s s2 st.lines_are took part) ∙ sym (append-nil (refusals cap (ended [] past)));
     }
