@@ -1,5 +1,7 @@
 -- What an exact sum stands for, and what adding a summand to it does.
-use Rattle.std.specs.Prelude.{◌≡◌, ◌+◌, ◌<◌, ◌≤◌, Bool, true, false, ℤ, pos, ◌+ℤ◌, ◌-ℤ◌}
+use Rattle.std.specs.Prelude.{◌≡◌, ◌+◌, ◌<◌, ◌≤◌, ℤ, pos, ◌+ℤ◌, ◌-ℤ◌, Ok, Err, Result, ⊤}
+use Rattle.numbers.specs.declared.refusal.Refusal.{Refusal}
+use Rattle.numbers.specs.Refusals.{Refused}
 use Rattle.numbers.specs.declared.piece.Summand.{Summand}
 use Rattle.numbers.specs.Products.{summand_units}
 use Rattle.numbers.specs.Units.{signed}
@@ -15,7 +17,7 @@ accumulated a = pos (natural a.above) -ℤ pos (natural a.below)
 abbrev pub sum_value : ExactSum → ℤ
 sum_value s = signed s.negative (natural s.size)
 
--- a summand is added, and counted, exactly where fewer than 65,536 were taken; otherwise nothing changes
-abbrev pub Adds : Accumulator → Summand → Accumulator → Bool → Type 0
-Adds before s after true = (before.taken < 65536) × (after.taken ≡ before.taken + 1) × (accumulated after ≡ accumulated before +ℤ summand_units s)
-Adds before s after false = (65536 ≤ before.taken) × (after ≡ before)
+-- a summand is added, and counted, exactly where fewer than 65,536 were taken; otherwise it is refused, with code 4, place 0 and side 0, and nothing changes
+abbrev pub Adds : Accumulator → Summand → Accumulator → Result ⊤ Refusal → Type 0
+Adds before s after (Ok done) = (before.taken < 65536) × (after.taken ≡ before.taken + 1) × (accumulated after ≡ accumulated before +ℤ summand_units s)
+Adds before s after (Err e) = (65536 ≤ before.taken) × (after ≡ before) × Refused e 4 0 0

@@ -1,7 +1,6 @@
 //! How a sum is made: one summand at a time, from any source.
-ghost use Rattle.std.specs.Prelude.{◌≡◌, ◌+◌, ◌<◌, ◌≤◌, pos, ◌+ℤ◌, nat_lt};
+ghost use Rattle.std.specs.Prelude.{◌≡◌, ◌+◌, ◌<◌, pos, ◌+ℤ◌, MatchOption};
 ghost use Rattle.numbers.specs.Products.{summand_units};
-ghost use Rattle.numbers.specs.Units.{rank};
 ghost use Rattle.readings.specs.Limbs.{natural};
 ghost use Rattle.readings.specs.Sums.{accumulated, sum_value, Adds};
 
@@ -9,23 +8,17 @@ use crate::limbs::{add_shifted, no_limbs, subtract};
 use crate::sums::{Accumulator, ExactSum};
 use condensers::condenser::Condenser;
 use numbers::piece::Summand;
+use numbers::refusal::{Reason, Refusal};
 
-/// How many places 2^exponent lies above the unit.
-fn unit_places(summand: Summand) -> u32
-    ensures answer { result ≡ rank summand.exponent }
-    ensures limits { result ≤ 2080 }
-{
-    (summand.exponent + 1074) as u32
-}
-
-/// The first size less the second, and whether the second is larger, so that there is no such size.
-fn difference(first: &[u64; 33], second: &[u64; 33]) -> ([u64; 33], bool)
-    ensures answer { result.1 ≡ nat_lt (natural first.now) (natural second.now) }
-    ensures value { natural second.now ≤ natural first.now → natural result.0 + natural second.now ≡ natural first.now }
+/// The first size less the second, or none where the second is larger.
+fn difference(first: &[u64; 33], second: &[u64; 33]) -> Option<[u64; 33]>
+    ensures value { MatchOption result (natural first.now < natural second.now) (λ rest. natural rest + natural second.now ≡ natural first.now) }
 {
     let mut rest = *first;
-    let borrow = subtract(&mut rest, second);
-    (rest, borrow != 0)
+    match subtract(&mut rest, second) {
+        0 => Some(rest),
+        _ => None,
+    }
 }
 
 impl Accumulator {
@@ -41,15 +34,15 @@ impl Accumulator {
         }
     }
 
-    /// Adds a summand. The answer is false, and nothing changes, where 65,536 were taken already.
-    pub fn add(&mut self, summand: Summand) -> bool
+    /// Adds a summand. It is refused, and nothing changes, where 65,536 were taken already.
+    pub fn add(&mut self, summand: Summand) -> Result<(), Refusal>
         ensures after { Adds self.old summand self.new result }
     {
         if self.taken >= 65536 {
-            return false;
+            return Err(Refusal::at(Reason::Full, 0));
         }
         self.place(summand);
-        true
+        Ok(())
     }
 
     /// Adds a summand, which has room.
@@ -59,7 +52,7 @@ impl Accumulator {
         ensures value { accumulated self.new ≡ accumulated self.old +ℤ summand_units summand }
     {
         self.taken += 1;
-        let shift = unit_places(summand);
+        let shift = summand.rank();
         if summand.negative {
             add_shifted(&mut self.below, summand.significand, shift);
         } else {
@@ -71,17 +64,15 @@ impl Accumulator {
     pub fn sum(&self) -> ExactSum
         ensures value { sum_value result ≡ accumulated self.now }
     {
-        let (size, larger) = difference(&self.above, &self.below);
-        if !larger {
-            return ExactSum {
+        match difference(&self.above, &self.below) {
+            Some(size) => ExactSum {
                 negative: false,
                 size,
-            };
-        }
-        let (size, _) = difference(&self.below, &self.above);
-        ExactSum {
-            negative: true,
-            size,
+            },
+            None => ExactSum {
+                negative: true,
+                size: difference(&self.below, &self.above).unwrap(),
+            },
         }
     }
 }
@@ -94,7 +85,7 @@ fn gathered<C: Condenser>(condenser: &C) -> Accumulator
     for k in 0..condenser.summand_count() {
         let summand = condenser.summand(k);
         if summand.significand != 0 {
-            let _ = sum.add(summand);
+            sum.place(summand);
         }
     }
     sum

@@ -15,7 +15,7 @@ use crate::limbs::{add_shifted, no_limbs};
 use crate::rounding::{size_mode, size_pattern};
 use crate::sums::ExactSum;
 use condensers::condenser::Condenser;
-use numbers::refusal::{Reason, Refusal, Side};
+use numbers::refusal::{Reason, Refusal};
 
 /// The sign bit of a binary64 pattern.
 const SIGN: u64 = 0x8000_0000_0000_0000;
@@ -77,11 +77,7 @@ fn shortened(long: u64, direction: Direction) -> Result<u64, Refusal>
     ensures answer { (x : ℤ) → Rounds binary64 direction x long → ReadsIn Short direction x result }
 {
     if passes_short(long) {
-        return Err(Refusal {
-            reason: Reason::ShortRange,
-            place: 0,
-            side: Side::Neither,
-        });
+        return Err(Refusal::at(Reason::ShortRange, 0));
     }
     Ok(pattern_sum(long).pattern(Width::Short, direction))
 }

@@ -1,6 +1,8 @@
 -- The long reading is refused or rounded once more.
-use Rattle.std.proofs.Common.{ℕ, ◌%◌, ◌^◌, ◌≤◌, T, nat_abs, sym, refl, subst, le_trans, le_of_eq, ltb→lt}
+use Rattle.std.proofs.Common.{ℕ, ◌%◌, ◌^◌, ◌≤◌, T, nat_abs, sym, ap, subst, le_trans, le_of_eq, ltb→lt}
 use lib.Ieee.{binary32}
+use Rattle.numbers.specs.declared.refusal.Refusal.{Refusal}
+use Rattle.numbers.specs.Refusals.{code_of, side_of}
 use Rattle.readings.specs.Formats.{largest}
 use Rattle.readings.specs.Limbs.{natural}
 use Rattle.readings.specs.Sums.{sum_value}
@@ -19,7 +21,7 @@ returns-then-passes_short c =
           long = record { rounds = l; encodes = l.encodes };
           large = too_large b l.number l.encodes (ltb→lt 0x47ef_ffff_e000_0000 (b % 2 ^ 63) (subst T c.if-passes_short.ensures.answer tt));
         },
-        (refl, refl, refl),
+        let e = c.at.ensures.answer in (ap (λ (r : Refusal). code_of r.reason) e, ap (λ (r : Refusal). r.place) e, ap (λ (r : Refusal). side_of r.side) e),
       );
     }
 

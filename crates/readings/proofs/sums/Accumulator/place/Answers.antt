@@ -15,8 +15,8 @@ add_shifted-requires c =
     let s = c.args.summand in
     record {
       reach = omega arith;
-      room = room (natural a.below) a.taken (s.significand * 2 ^ c.unit_places-shift.result) (length a.below) (omega arith) c.requires a.below_bounded
-          (size s.significand c.unit_places-shift.result (rank s.exponent) c.unit_places-shift.ensures.answer s.bounded);
+      room = room (natural a.below) a.taken (s.significand * 2 ^ c.rank-shift.result) (length a.below) (omega arith) c.requires a.below_bounded
+          (size s.significand c.rank-shift.result (rank s.exponent) c.rank-shift.ensures.answer s.bounded);
     }
 
 pub add_shifted-requires-else-summand : goal.add_shifted-requires-else-summand
@@ -25,8 +25,8 @@ add_shifted-requires-else-summand c =
     let s = c.args.summand in
     record {
       reach = omega arith;
-      room = room (natural a.above) a.taken (s.significand * 2 ^ c.unit_places-shift.result) (length a.above) (omega arith) c.requires a.above_bounded
-          (size s.significand c.unit_places-shift.result (rank s.exponent) c.unit_places-shift.ensures.answer s.bounded);
+      room = room (natural a.above) a.taken (s.significand * 2 ^ c.rank-shift.result) (length a.above) (omega arith) c.requires a.above_bounded
+          (size s.significand c.rank-shift.result (rank s.exponent) c.rank-shift.ensures.answer s.bounded);
     }
 
 value : (b : Bool) (t : Bool) (s places : ℕ) (e : ℤ) → t ≡ b → places ≡ rank e → units t s e ≡ signed b (s * 2 ^ places)
@@ -37,22 +37,22 @@ pub returns-then-summand : goal.returns-then-summand
 returns-then-summand c =
     let a = c.args.self.now in
     let s = c.args.summand in
-    let v = s.significand * 2 ^ c.unit_places-shift.result in
+    let v = s.significand * 2 ^ c.rank-shift.result in
     record {
       count = refl;
       value =
           below_more (natural a.above) (natural a.below) (natural c.add_shifted.new.limbs) v c.add_shifted.ensures.value
-          ∙ ap (λ (x : ℤ). (pos (natural a.above) -ℤ pos (natural a.below)) +ℤ x) (sym (value true s.negative s.significand c.unit_places-shift.result s.exponent c.if-summand.true c.unit_places-shift.ensures.answer));
+          ∙ ap (λ (x : ℤ). (pos (natural a.above) -ℤ pos (natural a.below)) +ℤ x) (sym (value true s.negative s.significand c.rank-shift.result s.exponent c.if-summand.true c.rank-shift.ensures.answer));
     }
 
 pub returns-else-summand : goal.returns-else-summand
 returns-else-summand c =
     let a = c.args.self.now in
     let s = c.args.summand in
-    let v = s.significand * 2 ^ c.unit_places-shift.result in
+    let v = s.significand * 2 ^ c.rank-shift.result in
     record {
       count = refl;
       value =
           above_more (natural a.above) (natural c.add_shifted-else-summand.new.limbs) (natural a.below) v c.add_shifted-else-summand.ensures.value
-          ∙ ap (λ (x : ℤ). (pos (natural a.above) -ℤ pos (natural a.below)) +ℤ x) (sym (value false s.negative s.significand c.unit_places-shift.result s.exponent c.if-summand.false c.unit_places-shift.ensures.answer));
+          ∙ ap (λ (x : ℤ). (pos (natural a.above) -ℤ pos (natural a.below)) +ℤ x) (sym (value false s.negative s.significand c.rank-shift.result s.exponent c.if-summand.false c.rank-shift.ensures.answer));
     }

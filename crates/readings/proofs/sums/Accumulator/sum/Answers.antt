@@ -1,32 +1,28 @@
 -- A difference is not above what it is taken from, and is zero only where both are alike.
-use Rattle.std.proofs.Common.{◌≡◌, ℕ, ◌+◌, ◌*◌, ◌<◌, ◌≤◌, Bool, true, false, not, T, ltb, sym, refl, ◌∙◌, subst, le_trans, le_of_lt, arith, ltb→lt, nltb→le}
+use Rattle.std.proofs.Common.{◌≡◌, ℕ, ◌+◌, ◌*◌, ◌<◌, ◌≤◌, MatchOption, Option, Bool, false, List, refl, sym, subst, le_trans, arith}
 use lib.Ieee.{binary64}
 use Rattle.readings.specs.Formats.{largest}
 use Rattle.readings.specs.Limbs.{natural, summand_limit}
 use Rattle.readings.proofs.Bounds.{in_sum}
 use Rattle.readings.proofs.Widths.{sum-long}
 use Rattle.readings.proofs.sums.Accumulator.sum.Goals as goal
-
-not_larger : (a b : ℕ) (r : Bool) → r ≡ ltb a b → r ≡ false → b ≤ a
-not_larger a b r e f = nltb→le a b (subst (λ (x : Bool). T (not x)) (sym f ∙ e) tt)
-
-is_larger : (a b : ℕ) (r : Bool) → r ≡ ltb a b → r ≡ true → a < b
-is_larger a b r e f = ltb→lt a b (subst T (sym f ∙ e) tt)
+use Rattle.readings.proofs.sums.Accumulator.sum.Goals.{in-Some, in-None}
 
 within : (n t e b : ℕ) → t ≤ 65536 → n ≤ t * summand_limit → e + b ≡ n → e ≤ largest binary64
 within n t e b T h s = le_trans (omega arith) (le_trans (in_sum n t T h) sum-long)
 
+-- a sign and a size that make up a sum
+abbrev Whole : Bool × (List ℕ × Unit {0}) → Type 0
+Whole s = (natural s.1.0 ≤ largest binary64) × (natural s.1.0 ≡ 0 → s.0 ≡ false)
+
 pub invariant_of-result : goal.invariant_of-result
 invariant_of-result c =
     let a = c.args.self.now in
-    let d = c.difference-larger in
-    let l = not_larger (natural a.above) (natural a.below) d.result.1 d.ensures.answer c.if-not-larger.true in
-    record { bounded = within (natural a.above) a.taken (natural d.result.0) (natural a.below) a.few a.above_bounded (d.ensures.value l); plus = λ z. refl }
-
-pub invariant_of-result-2 : goal.invariant_of-result-2
-invariant_of-result-2 c =
-    let a = c.args.self.now in
-    let d = c.difference in
-    let l = is_larger (natural a.above) (natural a.below) c.difference-larger.result.1 c.difference-larger.ensures.answer c.if-not-larger.false in
-    let e = d.ensures.value (le_of_lt l) in
-    record { bounded = within (natural a.below) a.taken (natural d.result.0) (natural a.above) a.few a.below_bounded e; plus = λ z. absurd (omega arith) }
+    let whole : Whole c.match-difference.result = elim c.match-difference.branch [
+      | in-Some w ↦ subst Whole (sym w.result-is) (within (natural a.above) a.taken (natural w.in-Some.size) (natural a.below) a.few a.above_bounded w.in-Some.ensures.value, λ z. refl)
+      | in-None w ↦
+          let e = subst (λ (o : Option (List ℕ)). MatchOption o (natural a.below < natural a.above) (λ rest. natural rest + natural a.above ≡ natural a.below)) w.unwrap.ensures w.difference-in-None.ensures.value in
+          let l = w.in-None.ensures.value in
+          subst Whole (sym w.result-is) (within (natural a.below) a.taken (natural w.unwrap.result) (natural a.above) a.few a.below_bounded e, λ z. absurd (omega arith))
+    ] in
+    record { bounded = whole.0; plus = whole.1 }
