@@ -6,4 +6,5 @@ pub mod Laws
 pub mod Limbs
 pub mod Sums
 pub mod Readings
+pub mod Names
 pub mod MarkedCases

@@ -5,6 +5,7 @@ pub mod accumulate;
 pub mod forms;
 pub mod laws;
 mod limbs;
+pub mod names;
 pub mod reading;
 mod rounding;
 pub mod sums;

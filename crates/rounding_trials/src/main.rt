@@ -14,12 +14,7 @@ use vector::reading;
 fn write_reading<W: Write>(out: &mut W, reading: Result<u64, Refusal>) -> io::Result<()> {
     match reading {
         Ok(pattern) => write!(out, "{pattern:016x}"),
-        Err(refusal) => {
-            let code = refusal.reason.code();
-            let place = refusal.place;
-            let side = refusal.side.number();
-            write!(out, "no {code} {place} {side}")
-        }
+        Err(refusal) => write!(out, "no {refusal}"),
     }
 }
 
