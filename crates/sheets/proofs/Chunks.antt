@@ -1,7 +1,7 @@
 -- Lines, parted at line feeds, chunk by chunk. Assumes nothing.
-use Rattle.std.proofs.Common.{◌≡◌, ℕ, zero, suc, ◌+◌, ◌-◌, ◌^◌, ◌<◌, ◌≤◌, min, Bool, true, false, cond, eqb, ltb, ◌⊎◌, List, [], ◌∷◌, ◌++◌, length, get_or, take, drop, MatchBool, sym, refl, ap, ◌∙◌, subst, inl, inr, append_assoc, arith, length-append}
+use Rattle.std.proofs.Common.{◌≡◌, ℕ, zero, suc, ◌+◌, ◌-◌, ◌^◌, ◌<◌, ◌≤◌, min, Bool, true, false, cond, eqb, ltb, ◌⊎◌, List, [], ◌∷◌, ◌++◌, length, get_or, take, MatchBool, sym, refl, ap, ◌∙◌, subst, inl, inr, append_assoc, arith, length-append}
 use native.Mathlib.Nat.{sub-zero}
-use Rattle.std.proofs.lemmas.List.{drop_more, drop_all, take_more, take_all, append-nil, length-take}
+use Rattle.std.proofs.lemmas.List.{take_more, take_all, append-nil, length-take}
 use Rattle.std.proofs.lemmas.Bool.{eqb-true, eq-eqb, ne_eqb, cond-true, cond-false, cases_lt, lt-ltb, both_ways}
 use Rattle.sheets.specs.declared.splitter.Splitter.{Splitter}
 use Rattle.sheets.specs.Splitting.{longer, ended, begun, last, feed_at, held, current, yielded, Parting, Took, After}
@@ -68,16 +68,11 @@ feed_is chunk h = take_more chunk (feed_at chunk) 0 h ∙ ap (λ b. take (feed_a
         go false q h k = k (omega arith)
 
 -- one step of the search
-pub feed_more : (chunk : List ℕ) (i : ℕ) → i < length chunk → (get_or chunk i 0 ≡ 10 → ⊥) → i + feed_at (drop i chunk) ≡ (i + 1) + feed_at (drop (i + 1) chunk)
-feed_more chunk i h ne =
-    let step : feed_at (drop i chunk) ≡ suc (feed_at (drop (i + 1) chunk)) = ap feed_at (drop_more chunk i 0 h) ∙ rw (ne_eqb (get_or chunk i 0) 10 ne) refl in
-    omega arith
+pub feed_hit : (b : ℕ) (bs : List ℕ) → b ≡ 10 → feed_at (b ∷ bs) ≡ 0
+feed_hit b bs e = rw (eq-eqb b 10 e) refl
 
-pub feed_stop : (chunk : List ℕ) (i : ℕ) → i < length chunk → get_or chunk i 0 ≡ 10 → feed_at (drop i chunk) ≡ 0
-feed_stop chunk i h e = ap feed_at (drop_more chunk i 0 h) ∙ rw (eq-eqb (get_or chunk i 0) 10 e) refl
-
-pub feed_end : (chunk : List ℕ) (i : ℕ) → length chunk ≤ i → feed_at (drop i chunk) ≡ 0
-feed_end chunk i h = ap feed_at (drop_all i chunk h)
+pub feed_miss : (b : ℕ) (bs : List ℕ) → (b ≡ 10 → ⊥) → feed_at (b ∷ bs) ≡ feed_at bs + 1
+feed_miss b bs ne = rw (ne_eqb b 10 ne) (omega arith)
 
 -- a chunk up to its line feed ends the line, and without one it only goes on
 pub feed_lines : (line chunk kept : List ℕ) → length line ≤ 40 → feed_at chunk < length chunk → kept ≡ take 40 (line ++ take (feed_at chunk) chunk) → (ended line (take (feed_at chunk + 1) chunk) ≡ kept ∷ []) × (begun line (take (feed_at chunk + 1) chunk) ≡ [])

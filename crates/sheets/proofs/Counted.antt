@@ -2,6 +2,7 @@
 use Rattle.std.proofs.Common.{◌≡◌, ℕ, zero, suc, ◌+◌, ◌-◌, ◌*◌, ◌^◌, ◌<◌, ◌≤◌, max, Bool, true, false, cond, not, ◌&&◌, eqb, List, [], ◌∷◌, length, get_or, take, drop, ℤ, pos, negsuc, neg_ℤ, nat_abs, Some, None, decimal, Option, sym, refl, ap, ◌∙◌, subst, inl, inr, zero-add, one-add, arith, lit<, lit≤, w32, SFits, MatchOption}
 use borrow.Author.Differences.{ints}
 use lib.Signed.{lt_z}
+use mir.Val.{bool_byte}
 use Rattle.numbers.specs.Units.{signed as with_sign}
 use Rattle.std.specs.Fmt.{signed_decimal}
 use Rattle.std.specs.Int.{IsInRange}
@@ -16,6 +17,15 @@ use Rattle.sheets.specs.Forms.{Form, end, one, Lang, reach}
 use Rattle.sheets.specs.Shapes.{byte, decimal_digit, up_to, size_shape, count_shape}
 use Rattle.sheets.proofs.Fields.{run_digits, up_to-reach, digits_up_to}
 use Rattle.sheets.proofs.Numerals.{run-within}
+
+-- a sign takes one byte
+pub sign_byte : (negative : Bool) → bool_byte negative ≡ cond negative 1 0
+sign_byte true = refl
+sign_byte false = refl
+
+pub sign_most : (negative : Bool) → bool_byte negative ≤ 1
+sign_most true = omega arith
+sign_most false = omega arith
 
 -- one byte and then the rest
 byte-reach : (n : ℕ) (rest : Form) (bytes : List ℕ) → reach (one (byte n) rest) bytes ≡ cond (begins n bytes) (suc (reach rest (drop 1 bytes))) 0

@@ -1,20 +1,39 @@
 -- A field from its letter on: how far a line goes along with it. Assumes nothing.
-use Rattle.std.proofs.Common.{◌≡◌, ℕ, suc, ◌+◌, ◌-◌, ◌^◌, ◌<◌, ◌≤◌, ◌⊎◌, List, [], ◌∷◌, length, get_or, take, drop, ℤ, pos, negsuc, Some, None, Option, sym, refl, ap, ◌∙◌, subst, inl, inr, arith, lit<, lit≤, MatchOption}
+use Rattle.std.proofs.Common.{◌≡◌, ℕ, suc, ◌+◌, ◌-◌, ◌^◌, ◌<◌, ◌≤◌, ◌⊎◌, List, [], ◌∷◌, length, get_or, take, drop, ℤ, pos, negsuc, Some, None, Ok, Err, Option, Result, sym, refl, ap, ◌∙◌, subst, inl, inr, arith, lit<, lit≤, MatchOption}
+use Rattle.std.specs.Option.{IsSomeAnd}
+use Rattle.std.specs.Result.{MatchResult}
 use borrow.Author.Differences.{ints}
 use lib.Signed.{mag}
-use Rattle.std.specs.List.{between}
+use denote.Ref.{Bor}
+use Rattle.std.specs.List.{between, HoldsAt}
+use Rattle.std.specs.Slice.{IsItemAt}
 use Rattle.std.proofs.lemmas.List.{drop_more, drop_all, drop-drop, length-drop}
 use Rattle.std.proofs.lemmas.Bool.{ne_eqb, cases_lt}
 use Rattle.std.proofs.lemmas.Fmt.{signed_decimal_injective}
+use Rattle.numbers.specs.declared.refusal.Refusal.{Refusal}
+use Rattle.numbers.specs.Refusals.{Refused}
 use Rattle.sheets.specs.declared.line.Field.{Field}
 use Rattle.sheets.specs.declared.line.Field.TheVariants.{Pattern, Count}
 use Rattle.sheets.specs.declared.written.Read.{Read}
-use Rattle.sheets.specs.Elements.{TextAt, Closed, Outside, pattern_text, count_text, NoPattern, NoCount}
+use Rattle.sheets.specs.Elements.{TextAt, ReadsText, Closed, Outside, pattern_text, count_text, NoPattern, NoCount}
 use Rattle.sheets.specs.Digits.{number_of}
 use Rattle.sheets.specs.Forms.{Form, end, Lang, reach}
-use Rattle.sheets.specs.Lines.{Leads, IsField, FieldAt, OutOfRange, field_text, place_of, Writes, Proper, HoldsPattern, HoldsCount}
+use Rattle.sheets.specs.Lines.{Leads, IsField, FieldAt, ReadsField, OutOfRange, field_text, place_of, Writes, Proper, HoldsPattern, HoldsCount}
 use Rattle.sheets.specs.Shapes.{pattern_shape, count_shape, field_shape}
 use Rattle.sheets.proofs.Numerals.{number-last}
+
+-- what `get` lent: no byte behind the end, and else the byte there
+pub no_item : (bytes : List ℕ) (i : ℕ) (r : Option (Bor ℕ)) → IsItemAt bytes i r → r ≡ None → length bytes ≤ i
+no_item bytes i r is none = subst (λ o. MatchOption o (length bytes ≤ i) (λ x. (i < length bytes) × HoldsAt (λ y. x.now ≡ y) bytes i)) none is.3
+
+pub item_is : (bytes : List ℕ) (i : ℕ) (r : Option (Bor ℕ)) (x : Bor ℕ) → IsItemAt bytes i r → r ≡ Some x → (i < length bytes) × (get_or bytes i 0 ≡ x.now)
+item_is bytes i r x is some =
+    let here = subst (λ o. MatchOption o (length bytes ≤ i) (λ x. (i < length bytes) × HoldsAt (λ y. x.now ≡ y) bytes i)) some is.3 in
+    (here.0, sym (here.1 0))
+
+pub ok_is : {A B : Type 0} (C : Type 0) (r : Result A B) (x : A) → MatchResult r (λ y. ◌≡◌ {A = Result A C} (Ok x) (Ok y)) (λ e. ⊥) → r ≡ Ok x
+ok_is C (Ok y) x h = let same : x ≡ y = cc in cc
+ok_is C (Err e) x h = absurd h
 
 pub pattern-leads : Leads 112 pattern_shape NoPattern
 unfolding field_shape
@@ -93,11 +112,29 @@ module _ (line : List ℕ) (at letter : ℕ) (is-letter : get_or line at 0 ≡ l
           inside = λ out. is.1 (leads.only bytes (subst OutOfRange (field_bytes r.len) out));
         })
 
+    -- by the answer of a reader, and what was made of its element
+    pub field_made : (r : Read E) → TextAt shape text outside (drop (at + 1) line) r → (made : Option Field) {Made : E → Field → Type 0} → MatchOption r.element (made ≡ None) (λ e. IsSomeAnd made (Made e)) →
+        ((e : E) (f : Field) → Made e f → (field_text f ≡ letter ∷ take r.len (drop (at + 1) line)) × (place_of f ≡ at) × Proper f × (text e ≡ take r.len (drop (at + 1) line) → Writes f)) → FieldAt line at (record { end = at + 1 + r.len; field = made })
+    field_made r t made {Made} by is = go r.element refl made by
+      where
+        go : (o : Option E) → r.element ≡ o → (made : Option Field) → MatchOption o (made ≡ None) (λ e. IsSomeAnd made (Made e)) → FieldAt line at (record { end = at + 1 + r.len; field = made })
+        go None none made by = subst (λ m. FieldAt line at (record { end = at + 1 + r.len; field = m })) (sym by) (field_none r t none)
+        go (Some e) some None by = absurd by
+        go (Some e) some (Some f) by = let h = is e f by in field_some r t e some f h.0 h.1 h.2 h.3
+
   -- or the line goes along with the shape no further
   pub field_stop : (shape : Form → Form) (outside : List ℕ → Type 0) → Leads letter shape outside → (n : ℕ) → ((rest : Form) → reach (shape rest) (drop (at + 1) line) ≡ n) → (rest : Form) → at + reach (field_shape rest) (drop at line) ≡ at + 1 + n
   field_stop shape outside leads n stop rest =
       let first : reach (field_shape rest) (drop at line) ≡ suc (reach (shape rest) (drop (at + 1) line)) = ap (reach (field_shape rest)) from_letter ∙ leads.along rest (drop (at + 1) line) in
       omega (arith, stop rest)
+
+  pub field_missed : {E : Type 0} (shape : Form → Form) (text : E → List ℕ) (outside : List ℕ → Type 0) → Leads letter shape outside → (r : Result (Read E) ℕ) → ReadsText shape text outside (drop (at + 1) line) r →
+      {Taken : Read E → Type 0} {Missed : ℕ → Type 0} → MatchResult r Taken Missed → ((x : Read E) → Taken x → ⊥) → (e : Refusal) → ((n : ℕ) → Missed n → Refused e 5 (at + 1 + n) 0) → ReadsField line at (Err e)
+  field_missed shape text outside leads (Ok x) answer by never e is = absurd (never x by)
+  field_missed shape text outside leads (Err n) answer by never e is =
+      let h = is n by in
+      let along = field_stop shape outside leads n answer.1 in
+      ((h.0, refl, h.2), omega (arith, h.1, answer.0, length-drop (at + 1) line), λ rest. along rest ∙ sym h.1)
 
 -- no field stands at `at`
 pub no_field_past : (line : List ℕ) (at : ℕ) → length line ≤ at → (rest : Form) → at + reach (field_shape rest) (drop at line) ≡ at

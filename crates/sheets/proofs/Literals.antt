@@ -1,31 +1,15 @@
 -- Texts that begin with given bytes. Assumes nothing.
-use Rattle.std.proofs.Common.{◌≡◌, ℕ, suc, ◌+◌, ◌<◌, ◌≤◌, max, Bool, true, false, cond, eqb, List, [], ◌∷◌, ◌++◌, length, get_or, drop, codes, refl, ap, arith}
-use Rattle.std.proofs.lemmas.List.{drop_more, drop_all}
-use Rattle.std.proofs.lemmas.Bool.{eqb-true, eq-eqb, ne_eqb}
+use Rattle.std.proofs.Common.{◌≡◌, ℕ, suc, ◌+◌, ◌<◌, ◌≤◌, max, Bool, true, false, cond, eqb, List, [], ◌∷◌, ◌++◌, length, drop, codes, refl, ap, arith}
+use Rattle.std.proofs.lemmas.Bool.{eqb-true}
+use Rattle.std.specs.List.{prefix_len, zip}
 use Rattle.sheets.specs.Forms.{Form, reach, shared}
 use Rattle.sheets.specs.Shapes.{literal, pair_shape, line_shape}
 
--- shared bytes, one more
-pub shared_more : (s t : List ℕ) (i : ℕ) → i < length s → i < length t → get_or s i 0 ≡ get_or t i 0 → i + shared (drop i s) (drop i t) ≡ (i + 1) + shared (drop (i + 1) s) (drop (i + 1) t)
-shared_more s t i h k e =
-    let step : shared (drop i s) (drop i t) ≡ suc (shared (drop (i + 1) s) (drop (i + 1) t)) = rw (drop_more s i 0 h, drop_more t i 0 k) (go (get_or s i 0) (get_or t i 0) e) in
-    omega arith
-  where
-    go : (a b : ℕ) → a ≡ b → shared (a ∷ drop (i + 1) s) (b ∷ drop (i + 1) t) ≡ suc (shared (drop (i + 1) s) (drop (i + 1) t))
-    go a b e = rw (eq-eqb a b e)
-
-pub shared_stop : (s t : List ℕ) (i : ℕ) → i < length s → i < length t → (get_or s i 0 ≡ get_or t i 0 → ⊥) → shared (drop i s) (drop i t) ≡ 0
-shared_stop s t i h k ne = rw (drop_more s i 0 h, drop_more t i 0 k) (rw (ne_eqb (get_or s i 0) (get_or t i 0) ne))
-
-pub shared_over : (s t : List ℕ) (i : ℕ) → length s ≤ i → shared (drop i s) (drop i t) ≡ 0
-shared_over s t i h = rw (drop_all i s h)
-
-pub shared_past : (s t : List ℕ) (i : ℕ) → length t ≤ i → shared (drop i s) (drop i t) ≡ 0
-shared_past s t i h = rw (drop_all i t h) (go (drop i s))
-  where
-    go : (s : List ℕ) → shared s [] ≡ 0
-    go [] = refl
-    go (b ∷ bs) = refl
+-- the shared bytes are the equal pairs at the front
+pub shared_pairs : (s t : List ℕ) → shared s t ≡ prefix_len (λ p. eqb p.0 p.1) (zip s t)
+shared_pairs [] t = refl
+shared_pairs (b ∷ bs) [] = refl
+shared_pairs (b ∷ bs) (d ∷ ds) = rw (shared_pairs bs ds) (ap (λ n. cond (eqb b d) n 0) (omega arith))
 
 pub shared-within : (s t : List ℕ) → (shared s t ≤ length s) × (shared s t ≤ length t)
 shared-within [] t = (omega arith, omega arith)

@@ -1,8 +1,8 @@
 -- Digits: how far they run, and the numbers that they write. Assumes nothing.
-use Rattle.std.proofs.Common.{◌≡◌, ℕ, zero, suc, ◌+◌, ◌-◌, ◌*◌, ◌/◌, ◌%◌, ◌^◌, ◌<◌, ◌≤◌, Bool, true, false, cond, ltb, List, [], ◌∷◌, ◌++◌, length, get_or, take, drop, decimal, sym, refl, ap, ◌∙◌, subst, append_assoc, add-zero, mul-le-mul_right, mod-lt, mod-eq_of_lt, suc-mul, div-lt_iff_lt-mul, pow-suc, div-add-mod', add-one, arith}
+use Rattle.std.proofs.Common.{◌≡◌, ℕ, zero, suc, ◌+◌, ◌-◌, ◌*◌, ◌/◌, ◌%◌, ◌^◌, ◌<◌, ◌≤◌, min, Bool, true, false, cond, ltb, ◌⊎◌, List, [], ◌∷◌, ◌++◌, length, get_or, take, drop, decimal, sym, refl, ap, ◌∙◌, subst, inl, inr, append_assoc, add-zero, mul-le-mul_right, mod-lt, mod-eq_of_lt, suc-mul, div-lt_iff_lt-mul, pow-suc, div-add-mod', add-one, arith}
 use native.Mathlib.Nat.{pow-zero, div-eq_of_lt, mul-add-div_right, mul-add-mod_self_right}
 use Rattle.std.proofs.lemmas.List.{drop_more, drop_all, take_more, take_all, length_push, length-take-le, nil_from_length}
-use Rattle.std.proofs.lemmas.Bool.{cond-true, lt-ltb, ltb-true}
+use Rattle.std.proofs.lemmas.Bool.{cases_lt, cond-true, lt-ltb, ltb-true}
 use Rattle.std.proofs.lemmas.Bool.Decides.{nat_tests}
 use Rattle.std.proofs.lemmas.Fmt.{decimal_by_steps}
 use Rattle.sheets.specs.Digits.{worth, digit_byte, is_digit, AllDigits, run, number_on, number_of, last_digits}
@@ -25,15 +25,17 @@ run_stop radix most text i l d = rw (drop_more text i 0 l) (go (most - i))
     go zero = refl
     go (suc m) = rw d
 
-pub run_none : (radix : ℕ) (text : List ℕ) (m : ℕ) → m ≡ 0 → run radix m text ≡ 0
-run_none radix text m e = rw e
-
-pub run_end : (radix most : ℕ) (text : List ℕ) (i : ℕ) → length text ≤ i → run radix (most - i) (drop i text) ≡ 0
-run_end radix most text i l = rw (drop_all i text l) (go (most - i))
+-- no digit comes behind the text, nor behind `most` of them
+pub run_over : (radix most : ℕ) (text : List ℕ) (i : ℕ) → min most (length text) ≤ i → run radix (most - i) (drop i text) ≡ 0
+run_over radix most text i h = go (cases_lt i most)
   where
-    go : (m : ℕ) → run radix m [] ≡ 0
-    go zero = refl
-    go (suc m) = refl
+    none : (m : ℕ) → run radix m [] ≡ 0
+    none zero = refl
+    none (suc m) = refl
+
+    go : (i < most) ⊎ (most ≤ i) → run radix (most - i) (drop i text) ≡ 0
+    go (inl l) = rw (drop_all i text (omega arith)) (none (most - i))
+    go (inr l) = let all : most - i ≡ 0 = omega arith in rw all refl
 
 -- the number, one digit on
 number_on-append : (radix n : ℕ) (xs ys : List ℕ) → number_on radix n (xs ++ ys) ≡ number_on radix (number_on radix n xs) ys

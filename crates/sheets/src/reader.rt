@@ -57,12 +57,8 @@ fn in_range<'a>(scanned: Scanned<'a>) -> Result<Line<'a>, Refusal>
         first,
         second,
     } = scanned;
-    let Some(first) = first else {
-        return Err(out_of_range(FIRST, Side::First));
-    };
-    let Some(second) = second else {
-        return Err(out_of_range(tab + 1, Side::Second));
-    };
+    let first = first.ok_or(out_of_range(FIRST, Side::First))?;
+    let second = second.ok_or(out_of_range(tab + 1, Side::Second))?;
     Ok(Line {
         word,
         first,
@@ -79,12 +75,9 @@ fn scan_line<'a>(line: &'a [u8]) -> Result<Scanned<'a>, Refusal>
         end: tab,
         field: first,
     } = read_field(line, FIRST)?;
-    if tab >= line.len() {
+    let Some(&TAB) = line.get(tab) else {
         return Err(misshapen(tab));
-    }
-    if line[tab] != TAB {
-        return Err(misshapen(tab));
-    }
+    };
     let Found { end, field: second } = read_field(line, tab + 1)?;
     if end < line.len() {
         return Err(misshapen(end));
@@ -132,15 +125,10 @@ fn read_word(line: &[u8]) -> Result<Word, Refusal>
 fn shared_front(line: &[u8], text: &[u8]) -> usize
     ensures answer { result ≡ shared line.now text.now }
 {
-    for (i, byte) in text.iter().enumerate() {
-        if i >= line.len() {
-            return i;
-        }
-        if line[i] != *byte {
-            return i;
-        }
-    }
-    text.len()
+    line.iter()
+        .zip(text)
+        .take_while(|(byte, other)| **byte == **other)
+        .count()
 }
 
 /// The field whose letter stands at `at`.
@@ -148,17 +136,11 @@ fn read_field<'a>(line: &'a [u8], at: usize) -> Result<Found<'a>, Refusal>
     requires { at ≤ length line.now }
     ensures answer { ReadsField line.now at result }
 {
-    if at >= line.len() {
-        return Err(misshapen(at));
+    match line.get(at) {
+        Some(&Patterns::LETTER) => field_of::<Patterns>(line, at),
+        Some(&Counts::LETTER) => field_of::<Counts>(line, at),
+        _ => Err(misshapen(at)),
     }
-    let letter = line[at];
-    if letter == Patterns::LETTER {
-        return field_of::<Patterns>(line, at);
-    }
-    if letter == Counts::LETTER {
-        return field_of::<Counts>(line, at);
-    }
-    Err(misshapen(at))
 }
 
 /// The field of the kind whose letter stands at `at`.
@@ -166,19 +148,8 @@ fn field_of<'a, K: Written>(line: &'a [u8], at: usize) -> Result<Found<'a>, Refu
     requires { (at < length line.now) × (slice_index line.now at ≡ K.Kind.LETTER) }
     ensures answer { ReadsField line.now at result }
 {
-    let Read { len, element } = match K::read(&line[at + 1..]) {
-        Ok(read) => read,
-        Err(n) => return Err(misshapen(at + 1 + n)),
-    };
+    let Read { len, element } = K::read(&line[at + 1..]).map_err(|n| misshapen(at + 1 + n))?;
     let end = at + 1 + len;
-    match element {
-        Some(element) => {
-            let field = K::field(&line[at + 1..end], at as u64, element);
-            Ok(Found {
-                end,
-                field: Some(field),
-            })
-        }
-        None => Ok(Found { end, field: None }),
-    }
+    let field = element.map(|element| K::field(&line[at + 1..end], at as u64, element));
+    Ok(Found { end, field })
 }

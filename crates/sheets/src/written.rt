@@ -151,7 +151,7 @@ fn read_count(bytes: &[u8]) -> Result<Read<i32>, usize>
         });
     }
     let negative = begins_with(bytes, b'-');
-    let sign = if negative { 1 } else { 0 };
+    let sign = usize::from(negative);
     let size = read_size(&bytes[sign..]);
     if size.count == 0 {
         return Err(sign);
@@ -180,10 +180,7 @@ fn text_of_count(element: i32) -> Text
 fn begins_with(bytes: &[u8], byte: u8) -> bool
     ensures answer { result ≡ begins byte bytes.now }
 {
-    match bytes {
-        [] => false,
-        [first, ..] => *first == byte,
-    }
+    bytes.first() == Some(&byte)
 }
 
 /// The digits of a number other than zero at the front, the first of them not 0.
@@ -204,15 +201,7 @@ fn read_size(bytes: &[u8]) -> Numeral
 fn count_of(negative: bool, size: u64) -> Option<i32>
     ensures answer { Within 32 (with_sign negative size) result }
 {
-    let limit = 1u64 << (Counts::WIDTH - 1);
-    if size > limit {
-        return None;
-    }
-    if negative {
-        return Some(-(size as i64) as i32);
-    }
-    if size == limit {
-        return None;
-    }
-    Some(size as i32)
+    let size = i64::try_from(size).ok()?;
+    let count = if negative { -size } else { size };
+    i32::try_from(count).ok()
 }

@@ -113,10 +113,8 @@ impl Splitter {
 fn line_feed_at(chunk: &[u8]) -> usize
     ensures answer { result ≡ feed_at chunk.now }
 {
-    for (i, byte) in chunk.iter().enumerate() {
-        if *byte == LINE_FEED {
-            return i;
-        }
-    }
-    chunk.len()
+    chunk
+        .iter()
+        .position(|byte| *byte == LINE_FEED)
+        .unwrap_or(chunk.len())
 }

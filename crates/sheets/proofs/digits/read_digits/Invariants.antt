@@ -3,5 +3,5 @@ use Rattle.std.proofs.Common.{◌≡◌, ◌+◌, ◌-◌, ◌^◌, ◌<◌, ◌
 use Rattle.sheets.specs.Digits.{run, number_of}
 use Rattle.sheets.proofs.digits.read_digits.Given as goal
 
-abbrev pub invariant-loop-i : goal.invariant-loop-i
-invariant-loop-i l = (l.i ≤ l.most) × (run l.radix l.most l.text ≡ l.i + run l.radix (l.most - l.i) (drop l.i l.text)) × (l.number ≡ number_of l.radix (take l.i l.text)) × (l.number < l.radix ^ l.i)
+abbrev pub invariant-loop-count : goal.invariant-loop-count
+invariant-loop-count l = (l.count ≤ l.most) × (run l.radix l.most l.text ≡ l.count + run l.radix (l.most - l.count) (drop l.count l.text)) × (l.number ≡ number_of l.radix (take l.count l.text)) × (l.number < l.radix ^ l.count)

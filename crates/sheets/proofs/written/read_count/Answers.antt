@@ -1,14 +1,12 @@
 -- `0`, or an optional sign and a size.
 use Rattle.std.proofs.Common.{◌≡◌, ◌≤◌, false, cond, take, drop, sym, ap, ◌∙◌, subst, arith, rules}
 use Rattle.std.proofs.lemmas.List.{take_rest}
-use Rattle.std.proofs.lemmas.Bool.{cond-true, cond-false}
 use Rattle.numbers.specs.Units.{signed as with_sign}
 use Rattle.sheets.specs.Digits.{begins, size_run, number_of}
 use Rattle.sheets.specs.Elements.{Within}
 use Rattle.sheets.proofs.Leading.{count-leads}
-use Rattle.sheets.proofs.Counted.{size-most, count-zero, count-some, count_stop}
+use Rattle.sheets.proofs.Counted.{size-most, count-zero, count-some, count_stop, sign_byte, sign_most}
 use Rattle.sheets.proofs.written.read_count.Goals as goal
-use Rattle.sheets.proofs.written.read_count.Goals.{then-negative, else-negative}
 
 pub returns-then-begins_with : goal.returns-then-begins_with
 returns-then-begins_with c = record { answer = count-zero c.args.bytes.now (sym c.begins_with.ensures.answer ∙ c.if-begins_with.true); law = count-leads }
@@ -17,8 +15,8 @@ pub returns-then-size-eq0 : goal.returns-then-size-eq0
 returns-then-size-eq0 c =
     let bytes = c.args.bytes.now in
     let negative = c.begins_with-negative.result in
-    let sign = c.if-negative.sign in
-    let sign_is : sign ≡ cond negative 1 0 = elim c.if-negative.branch [ then-negative w ↦ w.sign-is ∙ sym (cond-true negative 1 0 w.if-negative.true) | else-negative w ↦ w.sign-is ∙ sym (cond-false negative 1 0 w.if-negative.false) ] in
+    let sign = c.from-sign.result in
+    let sign_is : sign ≡ cond negative 1 0 = c.from-sign.ensures ∙ sign_byte negative in
     let no_zero : begins 48 bytes ≡ false = sym c.begins_with.ensures.answer ∙ c.if-begins_with.false in
     let size_is : c.read_size-size.result.count ≡ size_run (drop sign bytes) = c.read_size-size.ensures.count ∙ ap size_run (take_rest bytes sign) in
     record { answer = count_stop bytes negative sign no_zero (sym c.begins_with-negative.ensures.answer) sign_is (sym size_is ∙ c.if-size-eq0.true); law = count-leads }
@@ -26,8 +24,8 @@ returns-then-size-eq0 c =
 pub overflow_add-result : goal.overflow_add-result
 overflow_add-result c =
     let bytes = c.args.bytes.now in
-    let sign = c.if-negative.sign in
-    let sign-most : sign ≤ 1 = elim c.if-negative.branch [ then-negative w ↦ omega (arith, w.sign-is) | else-negative w ↦ omega (arith, w.sign-is) ] in
+    let sign = c.from-sign.result in
+    let sign-most : sign ≤ 1 = omega (arith, c.from-sign.ensures, sign_most c.begins_with-negative.result) in
     let size_is : c.read_size-size.result.count ≡ size_run (drop sign bytes) = c.read_size-size.ensures.count ∙ ap size_run (take_rest bytes sign) in
     let most = size-most (drop sign bytes) in
     search rules
@@ -36,9 +34,9 @@ pub returns : goal.returns
 returns c =
     let bytes = c.args.bytes.now in
     let negative = c.begins_with-negative.result in
-    let sign = c.if-negative.sign in
+    let sign = c.from-sign.result in
     let count = c.read_size-size.result.count in
-    let sign_is : sign ≡ cond negative 1 0 = elim c.if-negative.branch [ then-negative w ↦ w.sign-is ∙ sym (cond-true negative 1 0 w.if-negative.true) | else-negative w ↦ w.sign-is ∙ sym (cond-false negative 1 0 w.if-negative.false) ] in
+    let sign_is : sign ≡ cond negative 1 0 = c.from-sign.ensures ∙ sign_byte negative in
     let no_zero : begins 48 bytes ≡ false = sym c.begins_with.ensures.answer ∙ c.if-begins_with.false in
     let cut = take_rest bytes sign in
     let size_is : count ≡ size_run (drop sign bytes) = c.read_size-size.ensures.count ∙ ap size_run cut in

@@ -1,16 +1,12 @@
--- Byte after byte, up to a line feed or the end.
-use Rattle.std.proofs.Common.{arith}
-use Rattle.sheets.proofs.Chunks.{feed_more, feed_stop, feed_end}
+-- The first byte that is a line feed.
+use Rattle.std.proofs.Common.{◌≡◌, refl, sym, ◌∙◌, rules}
+use borrow.Author.Tests.{tests}
+use Rattle.std.proofs.lemmas.Iterator.{IsFirst-from_position, YieldsList-from_slice, index_from_first}
+use Rattle.sheets.specs.Splitting.{feed_at}
+use Rattle.sheets.proofs.Chunks.{feed_hit, feed_miss}
 use Rattle.sheets.proofs.splitter.feed.line_feed_at.Goals as goal
 
-pub loop-i-init : goal.loop-i-init
-loop-i-init c = omega arith
-
-pub returns-then-byte-eq-LINE_FEED : goal.returns-then-byte-eq-LINE_FEED
-returns-then-byte-eq-LINE_FEED c = let here = feed_stop c.args.chunk.now c.loop-i.i c.loop-i-test.true c.if-byte-eq-LINE_FEED.true in record { answer = omega arith }
-
-pub loop-i-preserved : goal.loop-i-preserved
-loop-i-preserved c = let more = feed_more c.args.chunk.now c.loop-i.i c.loop-i-test.true c.if-byte-eq-LINE_FEED.false in omega arith
-
 pub returns : goal.returns
-returns c = let none = feed_end c.args.chunk.now c.loop-i.i c.loop-i-test.false in record { answer = omega arith }
+returns c =
+    let first = IsFirst-from_position _ _ c.position.result (λ b. b ≡ 10) (λ b. b ≡ 10 → ⊥) c.position.ensures.ran (YieldsList-from_slice c.args.chunk.now cc) (λ x q k. search (rules, tests)) (λ x q k. search (rules, tests)) in
+    record { answer = c.unwrap_or.ensures ∙ sym (index_from_first feed_at (λ b. b ≡ 10) (λ b. b ≡ 10 → ⊥) refl feed_hit feed_miss c.args.chunk.now c.position.result first) }
