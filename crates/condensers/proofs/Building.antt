@@ -1,13 +1,26 @@
 -- The pattern of a number of so many units: the significand moved up to 53 digits, below the field and the sign. Assumes nothing.
-use Rattle.std.proofs.Common.{◌≡◌, ℕ, suc, ◌+◌, ◌-◌, ◌*◌, ◌%◌, ◌^◌, ◌<◌, ◌≤◌, Bool, true, false, not, T, ltb, ◌⊎◌, sym, refl, ap, ◌∙◌, subst, ap₂, inl, inr, le_trans, lt_of_lt_of_le, le_of_suc-le-suc, lt_of_le_of_lt, lt_irrefl, mul-le-mul_right, mod-eq_of_lt, mul_assoc, mul-le-mul_left, mul-lt-mul_of_pos_right, lt_of_not-le, zero-add, arith, ltb→lt, nltb→le, pow_pos, pow_mono, pow-add, le-leb}
+use Rattle.std.proofs.Common.{◌≡◌, ℕ, suc, ◌+◌, ◌-◌, ◌*◌, ◌%◌, ◌^◌, ◌<◌, ◌≤◌, min, Bool, true, false, not, T, ltb, ◌⊎◌, sym, refl, ap, ◌∙◌, subst, ap₂, inl, inr, le_of_lt, lt_of_le_of_lt, mul-le-mul_right, mod-eq_of_lt, mul_assoc, mul-le-mul_left, mul-lt-mul_of_pos_right, zero-add, arith, ltb→lt, nltb→le, pow_pos, pow_mono, pow-add, le-leb}
 use lib.Count.{count_leading_zeros, leading_top}
-use lib.Pow.{pow-lt}
+use Rattle.std.proofs.Math.Nat.{min-eq_left, min-eq_right}
 use borrow.Author.Tests.{lt-leb}
+use borrow.Author.Differences.{ints}
+use Rattle.std.proofs.lemmas.Bool.{cases_lt}
+use Rattle.numbers.specs.declared.piece.Piece.{Piece}
+use Rattle.numbers.specs.declared.piece.Summand.{Summand}
+use Rattle.numbers.specs.Products.{IsSummandOf}
+use Rattle.numbers.specs.Units.{rank}
 use Rattle.numbers.specs.Patterns.{sign_of, field_of}
+use Rattle.numbers.proofs.Scale.{rank_is}
+use Rattle.numbers.proofs.Window.{pow-order}
 use Rattle.condensers.specs.Fields.{leading, significand_of, height_of}
 
-lower : (n l : ℕ) → 2 ^ n ≤ 2 ^ l → n ≤ l
-lower n l h = le_of_suc-le-suc (lt_of_not-le (λ (g : suc l ≤ n). lt_irrefl (2 ^ l) (lt_of_lt_of_le (pow-lt g) h)))
+-- the rank of a piece
+pub rank_limit : (p : Piece) → rank p.exponent ≤ 1990
+rank_limit p = omega (arith, ints, rank_is p.exponent (omega (arith, ints)))
+
+-- the rank of a piece, as its summand gives it
+pub piece_rank : (p : Piece) (s : Summand) (r : ℕ) → IsSummandOf p s → r ≡ rank s.exponent → (r ≡ rank p.exponent) × (r ≤ 1990)
+piece_rank p s r h e = let f : r ≡ rank p.exponent = e ∙ ap rank h.exponent_is in (f, omega (arith, f, rank_limit p))
 
 -- ---- a pattern by its height and its significand
 
@@ -44,7 +57,7 @@ normalised P p s =
     let t = leading_top 64 P p (omega arith) in
     let z = count_leading_zeros 64 P in
     let j = t.0 in
-    let l : j ≤ 52 = lower j 52 (le_trans t.2 s) in
+    let l : j < 53 = pow-order j 53 P t.2 (omega arith) in
     let e : z + suc j ≡ 64 = t.1 in
     let a : 2 ^ j * 2 ^ (z - 11) ≡ 2 ^ 52 = sym (pow-add 2 j (z - 11)) ∙ ap (λ (x : ℕ). 2 ^ x) {x = j + (z - 11)} {y = 52} (omega arith) in
     let b : 2 ^ suc j * 2 ^ (z - 11) ≡ 2 ^ 53 = sym (pow-add 2 (suc j) (z - 11)) ∙ ap (λ (x : ℕ). 2 ^ x) {x = suc j + (z - 11)} {y = 53} (omega arith) in (
@@ -53,19 +66,22 @@ normalised P p s =
       subst (λ (x : ℕ). P * 2 ^ (z - 11) < x) b (mul-lt-mul_of_pos_right t.3 (pow_pos (z - 11))),
     )
 
--- How far P is moved up: until it has 53 digits, or to the end of the rank.
-abbrev pub Moved : ℕ → ℕ → ℕ → Type 0
-Moved P R S = ((S ≡ count_leading_zeros 64 P - 11) × (S < R)) ⊎ ((S ≡ R) × (R ≤ count_leading_zeros 64 P - 11))
+-- moved up until it has 53 digits, or to the end of the rank
+moved_up : (P R S : ℕ) → 0 < P → P ≤ 2 ^ 52 → S ≡ min (count_leading_zeros 64 P - 11) R → (S ≤ R) × (P * 2 ^ S < 2 ^ 53) × ((2 ^ 52 ≤ P * 2 ^ S) ⊎ (R - S ≡ 0))
+moved_up P R S p s e = go (cases_lt (count_leading_zeros 64 P - 11) R)
+  where
+    n : (11 ≤ count_leading_zeros 64 P) × (2 ^ 52 ≤ P * 2 ^ (count_leading_zeros 64 P - 11)) × (P * 2 ^ (count_leading_zeros 64 P - 11) < 2 ^ 53)
+    n = normalised P p s
 
-moved_up : (P R S : ℕ) → 0 < P → P ≤ 2 ^ 52 → Moved P R S → (S ≤ R) × (P * 2 ^ S < 2 ^ 53) × ((2 ^ 52 ≤ P * 2 ^ S) ⊎ (R - S ≡ 0))
-moved_up P R S p s (inl m) =
-    let n = normalised P p s in
-    (omega arith, subst (λ (x : ℕ). P * 2 ^ x < 2 ^ 53) (sym m.0) n.2, inl (subst (λ (x : ℕ). 2 ^ 52 ≤ P * 2 ^ x) (sym m.0) n.1))
-moved_up P R S p s (inr m) =
-    let n = normalised P p s in
-    (omega arith, lt_of_le_of_lt (mul-le-mul_left P (pow_mono {i = S} {j = count_leading_zeros 64 P - 11} (omega arith))) n.2, inr (omega arith))
+    go : (count_leading_zeros 64 P - 11 < R) ⊎ (R ≤ count_leading_zeros 64 P - 11) → (S ≤ R) × (P * 2 ^ S < 2 ^ 53) × ((2 ^ 52 ≤ P * 2 ^ S) ⊎ (R - S ≡ 0))
+    go (inl l) =
+        let f = e ∙ min-eq_left (le_of_lt l) in
+        (omega arith, subst (λ (x : ℕ). P * 2 ^ x < 2 ^ 53) (sym f) n.2, inl (subst (λ (x : ℕ). 2 ^ 52 ≤ P * 2 ^ x) (sym f) n.1))
+    go (inr l) =
+        let f = e ∙ min-eq_right l in
+        (omega arith, lt_of_le_of_lt (mul-le-mul_left P (pow_mono {i = S} {j = count_leading_zeros 64 P - 11} (omega arith))) n.2, inr (omega arith))
 
-pub moved-pattern : (P R S : ℕ) → 0 < P → P ≤ 2 ^ 52 → R ≤ 2042 → Moved P R S
+pub moved-pattern : (P R S : ℕ) → 0 < P → P ≤ 2 ^ 52 → R ≤ 2042 → S ≡ min (count_leading_zeros 64 P - 11) R
     → let b = (R - S) * 2 ^ 52 + P * 2 ^ S % 2 ^ 64 in (b < 2 ^ 63) × (field_of b < 2047) × (significand_of b * 2 ^ height_of b ≡ P * 2 ^ R)
 moved-pattern P R S p s r m =
     let u = moved_up P R S p s m in

@@ -4,12 +4,12 @@ ghost use Rattle.std.specs.Float.{binary64};
 ghost use Rattle.std.specs.Float.Ieee.{add};
 ghost use Rattle.numbers.specs.Patterns.{field_of};
 ghost use Rattle.numbers.specs.Products.{piece_units};
-ghost use Rattle.numbers.specs.Units.{float_value};
+ghost use Rattle.numbers.specs.Units.{rank, float_value};
 ghost use Rattle.condensers.specs.Fields.{leading, significand_of, height_of};
 ghost use Rattle.condensers.specs.Handed.{limited};
 ghost use Rattle.condensers.specs.Pairing.{float_units, size, place_of, range_limit, summand_of};
 
-use crate::units::{rank_of, summand_at};
+use crate::units::summand_at;
 use numbers::piece::{Piece, Summand};
 
 /// The weight of the exponent field in a pattern.
@@ -17,17 +17,15 @@ const FIELD: u64 = 0x10_0000_0000_0000;
 /// The sign bit of a pattern.
 const SIGN: u64 = 0x8000_0000_0000_0000;
 
-/// The pattern of the positive number significand × 2^rank units.
-fn pattern_of(significand: u64, rank: u32) -> u64
-    requires above { 0 < significand }
-    requires short { significand ≤ 2 ^ 52 }
-    requires within { rank ≤ 2042 }
+/// The pattern of the size of a piece other than zero.
+fn pattern_of(piece: Piece) -> u64
+    requires { 0 < piece.significand }
     ensures limits { (result < 2 ^ 63) × (field_of result < 2047) }
-    ensures value { significand_of result * 2 ^ height_of result ≡ significand * 2 ^ rank }
+    ensures value { significand_of result * 2 ^ height_of result ≡ piece.significand * 2 ^ rank piece.exponent }
 {
-    let room = significand.leading_zeros() - 11;
-    let shift = if room < rank { room } else { rank };
-    (rank - shift) as u64 * FIELD + (significand << shift)
+    let rank = Summand::from(piece).rank();
+    let shift = (piece.significand.leading_zeros() - 11).min(rank);
+    (rank - shift) as u64 * FIELD + (piece.significand << shift)
 }
 
 /// The binary64 number that has the piece's value.
@@ -38,12 +36,20 @@ pub(crate) fn number_of(piece: Piece) -> f64
     if piece.significand == 0 {
         return 0.0;
     }
-    let pattern = pattern_of(piece.significand, rank_of(piece));
+    let pattern = pattern_of(piece);
     if piece.negative {
         f64::from_bits(SIGN + pattern)
     } else {
         f64::from_bits(pattern)
     }
+}
+
+/// The exponent field of a pattern.
+fn exponent_field(bits: u64) -> u64
+    ensures answer { result ≡ field_of bits }
+    ensures limits { result < 2048 }
+{
+    bits / FIELD % 2048
 }
 
 /// The place of a number: two for every exponent field, one for each lowest fraction bit (the genus).
@@ -52,8 +58,7 @@ pub(crate) fn place_of(number: f64) -> usize
     ensures answer { result ≡ place_of number }
 {
     let bits = number.to_bits();
-    let field = bits / FIELD % 2048;
-    (2 * field + bits % 2) as usize
+    (2 * exponent_field(bits) + bits % 2) as usize
 }
 
 /// The sum of two numbers of one place by one binary64 addition, which is exact.
@@ -69,31 +74,24 @@ pub(crate) fn sum_of_pair(a: f64, b: f64) -> f64
 }
 
 /// The bit in front of the fraction, by the exponent field.
-fn leading_of(field: u32) -> u64
+fn leading_of(field: u64) -> u64
     ensures answer { result ≡ leading field }
     ensures limits { result ≤ 2 ^ 52 }
 {
     if field == 0 { 0 } else { FIELD }
 }
 
-/// How far the lowest bit of a number lies above the unit, by its exponent field: fields 0 and 1 weigh the same.
-fn height_of(field: u32) -> u32
-    ensures answer { result ≡ field - 1 }
-{
-    if field == 0 { 0 } else { field - 1 }
-}
-
-/// The summand of what stands at a place: its sign, its significand and the exponent of its lowest bit.
+/// The summand of what stands at a place: its sign, its significand and the exponent of its lowest bit. Exponent fields 0 and 1 weigh the same.
 pub(crate) fn summand_of(entry: f64) -> Summand
     requires finite { field_of (to_bits binary64 entry) < 2047 }
     requires limits { T (limited (significand_of (to_bits binary64 entry)) (height_of (to_bits binary64 entry))) }
     ensures answer { result ≡ summand_of entry }
 {
     let bits = entry.to_bits();
-    let field = (bits / FIELD % 2048) as u32;
+    let field = exponent_field(bits);
     summand_at(
         bits >= SIGN,
         leading_of(field) + bits % FIELD,
-        height_of(field),
+        field.saturating_sub(1) as u32,
     )
 }

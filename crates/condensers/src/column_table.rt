@@ -4,22 +4,18 @@ ghost use Rattle.std.proofs.Common.{lit≤};
 ghost use Rattle.numbers.specs.Units.{rank, signed};
 ghost use Rattle.numbers.specs.Products.{piece_units};
 ghost use Rattle.condensers.specs.Meaning.{PutAnswer, PutAfter, StandsAt};
-ghost use Rattle.condensers.specs.Columns.{column_total, summands_from, empty_columns, Gains, PutGains};
+ghost use Rattle.condensers.specs.Columns.{column_total, low_summand, high_summand, empty_columns, Gains, PutGains, summands_from};
 ghost use Rattle.condensers.specs.Laws.{columns_few, columns_exact};
 
-use crate::condenser::Condenser;
-use crate::refusing::full;
-use crate::units::{rank_of, summand_at};
+use crate::condenser::{CAPACITY, Condenser, refuse_if_full};
+use crate::units::summand_at;
 use numbers::piece::{Piece, Summand};
 use numbers::refusal::Refusal;
 
 const COLUMNS: usize = 64;
 
-const CAPACITY: u32 = 67_108_864;
 /// One more than the largest part.
 const PART: u64 = 0x1_0000_0000;
-
-const WIDE_PART: u128 = 0x1_0000_0000;
 
 /// Signed columns of growing weight. Each put adds at most one part to a column, so no column can overflow.
 #[derive(Drop)]
@@ -40,16 +36,21 @@ fn no_columns() -> [i64; COLUMNS]
     [0; COLUMNS]
 }
 
-/// The column of a third part, if there is one so high.
-fn third_column(first: usize) -> Option<usize>
-    requires { first ≤ 62 }
-    ensures answer { MatchOption result (first ≡ 62) (λ c. (c ≡ first + 2) × (c < 64)) }
+/// The low 32 bits of the size of the column at `place`.
+fn low_summand(place: u32, column: i64) -> Summand
+    requires { place < 64 }
+    ensures answer { result ≡ low_summand place column }
 {
-    if first + 2 < COLUMNS {
-        Some(first + 2)
-    } else {
-        None
-    }
+    summand_at(column < 0, column.unsigned_abs() % PART, 32 * place)
+}
+
+/// The rest of the size of the column at `place`, at 2^32 times its weight.
+fn high_summand(place: u32, column: i64) -> Summand
+    requires inside { place < 64 }
+    requires within { unsigned_abs column ≤ 67108864 * 4294967295 }
+    ensures answer { result ≡ high_summand place column }
+{
+    summand_at(column < 0, column.unsigned_abs() / PART, 32 * place + 32)
 }
 
 impl ColumnTable {
@@ -79,75 +80,23 @@ impl ColumnTable {
         }
     }
 
-    /// Adds the parts of ±significand × 2^rank units. They lie in at most three columns; where there is no third column, the third part is nothing.
-    fn add(&mut self, negative: bool, significand: u64, rank: u32)
-        requires short { significand ≤ 2 ^ 52 }
-        requires inside { rank ≤ 1990 }
-        requires within { (j : ℕ) → unsigned_abs (slice_index_or self.old.columns j (pos 0)) + 4294967295 ≤ self.old.count * 4294967295 }
-        ensures kept { Gains negative (significand * 2 ^ rank) self.old.columns self.new.columns }
-        ensures count { self.new.count ≡ self.old.count }
-    {
-        let first = (rank / 32) as usize;
-        let size = (significand as u128) << (rank % 32);
-        self.add_part(first, negative, (size % WIDE_PART) as u32);
-        self.add_part(first + 1, negative, (size / WIDE_PART % WIDE_PART) as u32);
-        if let Some(column) = third_column(first) {
-            self.add_part(column, negative, (size / WIDE_PART / WIDE_PART) as u32);
-        }
-    }
-
-    /// Takes a piece in, part by part.
+    /// Takes a piece in, part by part. Its parts lie in at most three columns; where there is no third column, the third part is nothing.
     fn insert(&mut self, piece: Piece)
         requires { self.old.count < 67108864 }
         ensures total { column_total self.new.columns ≡ column_total self.old.columns +ℤ piece_units piece }
         ensures count { self.new.count ≡ self.old.count + 1 }
         ensures kept { Gains piece.negative (piece.significand * 2 ^ rank piece.exponent) self.old.columns self.new.columns }
     {
+        let rank = Summand::from(piece).rank();
+        let first = (rank / 32) as usize;
+        let size = (piece.significand as u128) << (rank % 32);
+        let part = PART as u128;
         self.count += 1;
-        self.add(piece.negative, piece.significand, rank_of(piece));
-    }
-
-    /// Two summands for each column.
-    fn part_count(&self) -> u64
-        ensures answer { result ≡ length (summands_from 0 self.now.columns) }
-    {
-        2 * COLUMNS as u64
-    }
-
-    /// The low 32 bits of the size of column k / 2.
-    fn low_summand(&self, k: u64) -> Summand
-        requires inside { k < 128 }
-        requires even { k % 2 ≡ 0 }
-        ensures answer { StandsAt (summands_from 0 self.now.columns) k result }
-    {
-        let column = self.columns[(k / 2) as usize];
-        summand_at(
-            column < 0,
-            column.unsigned_abs() % PART,
-            32 * (k / 2) as u32,
-        )
-    }
-
-    /// The rest of the size of column k / 2, at 2^32 times its weight.
-    fn high_summand(&self, k: u64) -> Summand
-        requires inside { k < 128 }
-        requires odd { k % 2 ≡ 1 }
-        ensures answer { StandsAt (summands_from 0 self.now.columns) k result }
-    {
-        let column = self.columns[(k / 2) as usize];
-        summand_at(
-            column < 0,
-            column.unsigned_abs() / PART,
-            32 * (k / 2) as u32 + 32,
-        )
-    }
-
-    /// The zero summand, past the last column.
-    fn no_summand(&self, k: u64) -> Summand
-        requires { 128 ≤ k }
-        ensures answer { StandsAt (summands_from 0 self.now.columns) k result }
-    {
-        summand_at(false, 0, 0)
+        self.add_part(first, piece.negative, (size % part) as u32);
+        self.add_part(first + 1, piece.negative, (size / part % part) as u32);
+        if first + 2 < COLUMNS {
+            self.add_part(first + 2, piece.negative, (size / part / part) as u32);
+        }
     }
 }
 
@@ -184,9 +133,7 @@ impl Condenser for ColumnTable {
         ensures after { PutAfter (λ t. column_total t.columns) (λ t. t.count) piece self.old self.new result }
         ensures kept { PutGains piece self.old.columns self.new.columns result }
     {
-        if self.count == CAPACITY {
-            return Err(full());
-        }
+        refuse_if_full(self.count)?;
         self.insert(piece);
         Ok(())
     }
@@ -200,16 +147,18 @@ impl Condenser for ColumnTable {
     }
 
     fn summand_count(&self) -> u64 {
-        self.part_count()
+        2 * COLUMNS as u64
     }
 
     fn summand(&self, k: u64) -> Summand {
-        if k >= 2 * COLUMNS as u64 {
-            self.no_summand(k)
-        } else if k % 2 == 0 {
-            self.low_summand(k)
+        let place = (k / 2) as usize;
+        let Some(column) = self.columns.get(place) else {
+            return Summand::ZERO;
+        };
+        if k % 2 == 0 {
+            low_summand(place as u32, *column)
         } else {
-            self.high_summand(k)
+            high_summand(place as u32, *column)
         }
     }
 }

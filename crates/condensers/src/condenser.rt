@@ -4,7 +4,21 @@ ghost use Rattle.numbers.specs.declared.piece.Summand.{Summand};
 ghost use Rattle.condensers.specs.Meaning.{sum_units, StandsAt, PutAnswer, PutAfter};
 
 use numbers::piece::{Piece, Summand};
-use numbers::refusal::Refusal;
+use numbers::refusal::{Reason, Refusal};
+
+/// The most pieces that a table takes.
+pub(crate) const CAPACITY: u32 = 67_108_864;
+
+/// Refuses one piece more where a table has taken all that it can.
+pub(crate) fn refuse_if_full(count: u32) -> Result<(), Refusal>
+    requires { count ≤ 67108864 }
+    ensures answer { PutAnswer 67108864 count result }
+{
+    if count == CAPACITY {
+        return Err(Refusal::at(Reason::Full, 0));
+    }
+    Ok(())
+}
 
 /// A condenser: something that takes pieces and keeps their exact sum.
 /// It means a total in units of 2^-1074, a count of the pieces put since it was emptied, and the list of summands that it hands out.

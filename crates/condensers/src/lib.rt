@@ -5,5 +5,4 @@ mod binary64;
 pub mod column_table;
 pub mod condenser;
 pub mod pairing_table;
-mod refusing;
 mod units;

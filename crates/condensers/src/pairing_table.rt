@@ -9,15 +9,11 @@ ghost use Rattle.condensers.specs.Pairing.{float_units, size, total_of, sum_of, 
 ghost use Rattle.condensers.specs.Laws.{entries_few, entries_exact};
 
 use crate::binary64::{number_of, place_of, sum_of_pair, summand_of};
-use crate::condenser::Condenser;
-use crate::refusing::full;
-use crate::units::summand_at;
+use crate::condenser::{CAPACITY, Condenser, refuse_if_full};
 use numbers::piece::{Piece, Summand};
 use numbers::refusal::Refusal;
 
 const PLACES: usize = 4096;
-
-const CAPACITY: u32 = 67_108_864;
 
 /// Binary64 numbers by place. An empty place holds +0; any other holds a number that belongs there.
 #[derive(Drop)]
@@ -91,29 +87,6 @@ impl PairingTable {
         self.count += 1;
         self.enter(number_of(piece));
     }
-
-    /// One summand for each place.
-    fn entry_count(&self) -> u64
-        ensures answer { result ≡ length (map summand_of self.now.entries) }
-    {
-        PLACES as u64
-    }
-
-    /// The summand of the place `k`.
-    fn entry_summand(&self, k: u64) -> Summand
-        requires { k < 4096 }
-        ensures answer { StandsAt (map summand_of self.now.entries) k result }
-    {
-        summand_of(self.entries[k as usize])
-    }
-
-    /// The zero summand, past the last place.
-    fn no_summand(&self, k: u64) -> Summand
-        requires { 4096 ≤ k }
-        ensures answer { StandsAt (map summand_of self.now.entries) k result }
-    {
-        summand_at(false, 0, 0)
-    }
 }
 
 impl Condenser for PairingTable {
@@ -149,9 +122,7 @@ impl Condenser for PairingTable {
         ensures after { PutAfter (λ t. total_of t.entries) (λ t. t.count) piece self.old self.new result }
         ensures kept { PutEnters piece self.old.entries self.new.entries result }
     {
-        if self.count == CAPACITY {
-            return Err(full());
-        }
+        refuse_if_full(self.count)?;
         self.insert(piece);
         Ok(())
     }
@@ -165,14 +136,13 @@ impl Condenser for PairingTable {
     }
 
     fn summand_count(&self) -> u64 {
-        self.entry_count()
+        PLACES as u64
     }
 
     fn summand(&self, k: u64) -> Summand {
-        if k < PLACES as u64 {
-            self.entry_summand(k)
-        } else {
-            self.no_summand(k)
+        match self.entries.get(k as usize) {
+            Some(entry) => summand_of(*entry),
+            None => Summand::ZERO,
         }
     }
 }

@@ -12,12 +12,12 @@ use Rattle.condensers.proofs.Building.{plus_sign, minus_sign, signed_field, sign
 use Rattle.condensers.proofs.binary64.number_of.Goals as goal
 
 -- the value of a piece whose size is the one of the pattern p
-made : (piece : Piece) (b p R : ℕ) → sign_of b ≡ piece.negative → field_of b ≡ field_of p → b % 2 ^ 52 ≡ p % 2 ^ 52 → field_of p < 2047
-    → significand_of p * 2 ^ height_of p ≡ piece.significand * 2 ^ R → R ≡ rank piece.exponent → float_value (of_bits binary64 b) ≡ Some (piece_units piece)
+made : (piece : Piece) (b p : ℕ) → sign_of b ≡ piece.negative → field_of b ≡ field_of p → b % 2 ^ 52 ≡ p % 2 ^ 52 → field_of p < 2047
+    → significand_of p * 2 ^ height_of p ≡ piece.significand * 2 ^ rank piece.exponent → float_value (of_bits binary64 b) ≡ Some (piece_units piece)
 unfolding units
-made piece b p R s f t h e r =
+made piece b p s f t h e =
     pattern_number b (subst (λ (x : ℕ). x < 2047) (sym f) h)
-    ∙ ap Some (ap₂ signed s (ap₂ (λ (x y : ℕ). (leading x + y) * 2 ^ (x - 1)) f t ∙ e ∙ ap (λ (x : ℕ). piece.significand * 2 ^ x) r))
+    ∙ ap Some (ap₂ signed s (ap₂ (λ (x y : ℕ). (leading x + y) * 2 ^ (x - 1)) f t ∙ e))
 
 nothing : float_value (of_bits binary64 0) ≡ Some (pos 0)
 nothing = pattern_number 0 (lit< tt)
@@ -41,7 +41,7 @@ returns-then-piece c =
     let t = c.pattern_of-pattern.ensures in
     let f : field_of (2 ^ 63 + p) < 2047 = subst (λ (x : ℕ). x < 2047) (sym (signed_field p)) t.limits.1 in
     record {
-      value = made piece (2 ^ 63 + p) p _ (minus_sign p ∙ sym c.if-piece.true) (signed_field p) (signed_fraction p) t.limits.1 t.value c.rank_of.ensures.answer;
+      value = made piece (2 ^ 63 + p) p (minus_sign p ∙ sym c.if-piece.true) (signed_field p) (signed_fraction p) t.limits.1 t.value;
       limits = subst (λ (x : ℕ). field_of x < 2047) (sym (pattern_again (2 ^ 63 + p) (omega arith) f)) f;
     }
 
@@ -51,6 +51,6 @@ returns-else-piece c =
     let p = c.pattern_of-pattern.result in
     let t = c.pattern_of-pattern.ensures in
     record {
-      value = made piece p p _ (plus_sign p t.limits.0 ∙ sym c.if-piece.false) refl refl t.limits.1 t.value c.rank_of.ensures.answer;
+      value = made piece p p (plus_sign p t.limits.0 ∙ sym c.if-piece.false) refl refl t.limits.1 t.value;
       limits = subst (λ (x : ℕ). field_of x < 2047) (sym (pattern_again p (omega arith) t.limits.1)) t.limits.1;
     }

@@ -1,24 +1,18 @@
 -- The significand is moved up to 53 digits, or as far as the rank allows. Assumes nothing.
-use Rattle.std.proofs.Common.{inl, inr, arith}
-use Rattle.condensers.proofs.Building.{normalised, Moved, moved-pattern}
+use Rattle.std.proofs.Common.{ℕ, ◌*◌, ◌^◌, ap, ◌∙◌, arith}
+use Rattle.condensers.proofs.Building.{piece_rank, normalised, moved-pattern}
 use Rattle.condensers.proofs.binary64.pattern_of.Goals as goal
-use Rattle.condensers.proofs.binary64.pattern_of.Goals.{then-room-rank, else-room-rank}
 
-pub overflow_sub-room : goal.overflow_sub-room
-overflow_sub-room c = (normalised c.args.significand c.requires.above c.requires.short).0
+pub overflow_sub-piece : goal.overflow_sub-piece
+overflow_sub-piece c = (normalised c.args.piece.significand c.requires c.args.piece.short).0
 
 pub overflow_add-result : goal.overflow_add-result
 overflow_add-result c =
-    let moved : Moved c.args.significand c.args.rank c.if-room-rank.shift =
-    elim c.if-room-rank.branch [ then-room-rank w ↦ inl (w.shift-is, omega arith) | else-room-rank w ↦ inr (w.shift-is, w.if-room-rank.false) ]
-    in
-    let m = moved-pattern c.args.significand c.args.rank c.if-room-rank.shift c.requires.above c.requires.short c.requires.within moved in
-    omega (arith, m.0)
+    let r = piece_rank c.args.piece c.from.result c.rank-rank.result c.from.ensures c.rank-rank.ensures.answer in
+    omega (arith, (moved-pattern c.args.piece.significand c.rank-rank.result c.min-shift.result c.requires c.args.piece.short (omega (arith, r)) c.min-shift.ensures).0)
 
 pub returns : goal.returns
 returns c =
-    let moved : Moved c.args.significand c.args.rank c.if-room-rank.shift =
-    elim c.if-room-rank.branch [ then-room-rank w ↦ inl (w.shift-is, omega arith) | else-room-rank w ↦ inr (w.shift-is, w.if-room-rank.false) ]
-    in
-    let m = moved-pattern c.args.significand c.args.rank c.if-room-rank.shift c.requires.above c.requires.short c.requires.within moved in
-    record { limits = (m.0, m.1); value = m.2 }
+    let r = piece_rank c.args.piece c.from.result c.rank-rank.result c.from.ensures c.rank-rank.ensures.answer in
+    let m = moved-pattern c.args.piece.significand c.rank-rank.result c.min-shift.result c.requires c.args.piece.short (omega (arith, r)) c.min-shift.ensures in
+    record { limits = (m.0, m.1); value = m.2 ∙ ap (λ (k : ℕ). c.args.piece.significand * 2 ^ k) r.0 }

@@ -1,21 +1,18 @@
 -- A piece enters as its number, whose size is at most 2^968. Assumes nothing.
 use Rattle.std.proofs.Common.{ℕ, ◌^◌, ◌≤◌, T, ℤ, ◌+ℤ◌, nat_abs, sym, ap, ◌∙◌, subst, mul-le-mul, arith, pow_mono}
-use borrow.Author.Differences.{ints}
 use Rattle.numbers.specs.declared.piece.Piece.{Piece}
-use Rattle.numbers.specs.Units.{rank}
 use Rattle.numbers.specs.Products.{piece_units}
-use Rattle.numbers.proofs.Scale.{rank_is}
 use Rattle.numbers.proofs.Window.{size-units}
 use Rattle.condensers.specs.Pairing.{size, piece_limit, total_of}
 use Rattle.condensers.specs.Laws.Patterns.{number_is}
+use Rattle.condensers.proofs.Building.{rank_limit}
 use Rattle.condensers.proofs.pairing_table.PairingTable.insert.Goals as goal
 
 -- 2^52 × 2^916 is 2^968
 piece_size : (p : Piece) → nat_abs (piece_units p) ≤ piece_limit
 unfolding piece_limit
 piece_size p =
-    let r : rank p.exponent ≤ 1990 = omega (arith, ints, rank_is p.exponent (omega (arith, ints))) in
-    subst (λ (n : ℕ). n ≤ 2 ^ 2042) (sym (size-units p.negative p.significand p.exponent)) (mul-le-mul p.short (pow_mono r))
+    subst (λ (n : ℕ). n ≤ 2 ^ 2042) (sym (size-units p.negative p.significand p.exponent)) (mul-le-mul p.short (pow_mono (rank_limit p)))
 
 pub enter-requires : goal.enter-requires
 enter-requires c =
