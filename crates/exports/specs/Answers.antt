@@ -2,35 +2,13 @@
 use Rattle.std.specs.Prelude.{◌≡◌, ℕ, ◌≤◌, false, ◌⊎◌, List, ℤ, Some, None, Ok, Err, Option, Result}
 use Rattle.numbers.specs.declared.refusal.Refusal.{Refusal}
 use Rattle.numbers.specs.Refusals.{code_of, side_of, Refused}
-use Rattle.readings.specs.declared.forms.Direction.{Direction}
-use Rattle.readings.specs.declared.forms.Direction.TheVariants.{Nearest, TowardZero, Up, Down}
-use Rattle.readings.specs.declared.forms.Width.{Width}
-use Rattle.readings.specs.declared.forms.Width.TheVariants.{Long, Short}
 use Rattle.readings.specs.declared.forms.Form.{Form}
+use Rattle.readings.specs.Names.{direction_number, width_number}
 use Rattle.readings.specs.Readings.{Reads}
 use Rattle.runs.specs.Bags.{exact_sum}
 use Rattle.runs.specs.Calls.{Outcome, accepted, refused, slices_outcome, product_entries}
 use Rattle.reports.specs.InMemory.{SheetWritten}
 use Rattle.exports.specs.declared.answer.Answer.{Answer}
-
--- the numbers of directions and widths
-abbrev pub direction_number : Direction → ℕ
-direction_number Nearest = 0
-direction_number TowardZero = 1
-direction_number Up = 2
-direction_number Down = 3
-
-abbrev pub width_number : Width → ℕ
-width_number Long = 0
-width_number Short = 1
-
-abbrev pub DirectionOf : ℕ → Option Direction → Type 0
-DirectionOf n (Some d) = direction_number d ≡ n
-DirectionOf n None = 4 ≤ n
-
-abbrev pub WidthOf : ℕ → Option Width → Type 0
-WidthOf n (Some w) = width_number w ≡ n
-WidthOf n None = 2 ≤ n
 
 -- the form with those numbers; there is none for a direction of 4 or more, or a width of 2 or more
 abbrev pub FormOf : ℕ → ℕ → Option Form → Type 0

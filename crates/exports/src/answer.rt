@@ -14,11 +14,11 @@ pub struct Answer {
     pub value: u64,
 }
 
-impl Answer {
-    /// The numbers of a result.
-    pub(crate) fn of(res: Result<u64, Refusal>) -> Answer
-        ensures answer { result ≡ told res }
-    {
+/// The numbers of a result.
+impl From<Result<u64, Refusal>> for Answer {
+    ghost from_gives = { λ res r. r ≡ told res };
+
+    fn from(res: Result<u64, Refusal>) -> Answer {
         match res {
             Ok(value) => Answer {
                 code: 0,
@@ -34,7 +34,9 @@ impl Answer {
             },
         }
     }
+}
 
+impl Answer {
     /// The answer to numbers that stand for no form.
     pub(crate) fn no_form() -> Answer
         ensures answer { result ≡ unformed }

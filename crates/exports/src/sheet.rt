@@ -8,8 +8,5 @@ use reports::in_memory::report_sheet;
 pub fn total_report(sheet: &[u8], out: &mut [u8]) -> Answer
     ensures answer { Report sheet.now out.old out.new result }
 {
-    match report_sheet(sheet, out) {
-        Ok(length) => Answer::of(Ok(length as u64)),
-        Err(refusal) => Answer::of(Err(refusal)),
-    }
+    Answer::from(report_sheet(sheet, out).map(|length| length as u64))
 }

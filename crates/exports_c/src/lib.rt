@@ -7,7 +7,10 @@ ghost use Rattle.numbers.specs.Patterns.{pattern_value};
 ghost use Rattle.exports.specs.Answers.{Dot, Report};
 
 use exports::answer::Answer;
-use exports::{dot, sheet};
+use exports::dot::total_dot;
+use exports::sheet;
+use numbers::counts::Counts;
+use numbers::patterns::Patterns;
 
 /// The sum of the products of two slices of binary64 patterns.
 #[unsafe(no_mangle)]
@@ -19,7 +22,7 @@ pub extern "C" fn total_dot_patterns(
 ) -> Answer
     ensures answer { Dot (map pattern_value firsts.now) (map pattern_value seconds.now) direction width result }
 {
-    dot::total_dot_patterns(firsts, seconds, direction, width)
+    total_dot::<Patterns, Patterns>(firsts, seconds, direction, width)
 }
 
 /// The sum of the products of two slices of counts.
@@ -32,7 +35,7 @@ pub extern "C" fn total_dot_counts(
 ) -> Answer
     ensures answer { Dot (map count_value firsts.now) (map count_value seconds.now) direction width result }
 {
-    dot::total_dot_counts(firsts, seconds, direction, width)
+    total_dot::<Counts, Counts>(firsts, seconds, direction, width)
 }
 
 /// The sum of the products of a slice of binary64 patterns and one of counts.
@@ -45,7 +48,7 @@ pub extern "C" fn total_dot_patterns_counts(
 ) -> Answer
     ensures answer { Dot (map pattern_value firsts.now) (map count_value seconds.now) direction width result }
 {
-    dot::total_dot_patterns_counts(firsts, seconds, direction, width)
+    total_dot::<Patterns, Counts>(firsts, seconds, direction, width)
 }
 
 /// Writes the reports of a sheet, one behind the other, and tells how many bytes they have; or refuses a slice that is too short, which then stays as it was.
