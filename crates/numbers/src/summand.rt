@@ -14,6 +14,7 @@ impl Summand {
     };
 
     /// The rank of a summand: its value is ±significand × 2^rank units.
+    #[tactic(auto, using(crate::proofs::Scale::rank_is))]
     pub fn rank(self) -> u32
         ensures answer { result ≡ rank self.exponent }
         ensures limits { result ≤ 2080 }
