@@ -1,5 +1,6 @@
 -- Lemmas of `numbers` that several proofs share.
 pub mod Scale
+pub mod Summands
 pub mod Values
 pub mod Window
 pub mod Encoding

@@ -27,6 +27,7 @@ impl Summand {
 impl From<Piece> for Summand {
     ghost from_gives = { IsSummandOf };
 
+    #[tactic(auto, using(crate::proofs::Summands::summand_bounded, crate::proofs::Summands::exponent_kept))]
     fn from(piece: Piece) -> Summand {
         Summand {
             negative: piece.negative,
