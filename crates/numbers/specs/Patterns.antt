@@ -2,6 +2,7 @@
 use Rattle.std.specs.Prelude.{◌≡◌, ℕ, zero, suc, ◌+◌, ◌*◌, ◌/◌, ◌%◌, ◌^◌, ◌<◌, ◌≤◌, Bool, false, cond, ◌⊎◌, ℤ, pos, ◌-ℤ◌, Some, None, Ok, Err, Option, Result, ◌==◌, nat_le}
 use Rattle.numbers.specs.declared.factor.Factor.{Factor}
 use Rattle.numbers.specs.declared.refusal.Reason.{Reason}
+use Rattle.numbers.specs.Refusals.{code_of}
 use Rattle.numbers.specs.Units.{signed}
 
 -- the sign, the exponent field and the fraction of a pattern
@@ -37,12 +38,12 @@ abbrev pub PatternMade : ℕ → Result Factor Reason → Type 0
 PatternMade b (Ok f) = PatternFactor b f
 PatternMade b (Err _) = Unit {0}
 
--- the exponent of the factor of a pattern in the window, by its field
-abbrev pub ExponentOf : ℕ → Option ℤ → Type 0
-ExponentOf field (Some e) = (512 ≤ field) × (field ≤ 1506) × (e ≡ pos field -ℤ pos 1048)
-ExponentOf field None = (field < 512) ⊎ (1506 < field)
+-- the exponent of the factor of a pattern in the window, by its field; outside the window the pattern is refused
+abbrev pub ExponentOf : ℕ → Result ℤ Reason → Type 0
+ExponentOf field (Ok e) = (512 ≤ field) × (field ≤ 1506) × (e ≡ pos field -ℤ pos 1048)
+ExponentOf field (Err reason) = ((field < 512) ⊎ (1506 < field)) × (code_of reason ≡ cond (field == 2047) 1 2)
 
--- the significand of the factor of a pattern, by its fraction
-abbrev pub SignificandOf : ℕ → Option ℕ → Type 0
-SignificandOf t (Some m) = (t % 2 ^ 27 ≡ 0) × (m ≡ 2 ^ 25 + t / 2 ^ 27)
-SignificandOf t None = t % 2 ^ 27 ≡ 0 → ⊥
+-- the significand of the factor of a pattern, by its fraction; a fraction with bits below it is refused
+abbrev pub SignificandOf : ℕ → Result ℕ Reason → Type 0
+SignificandOf t (Ok m) = (t % 2 ^ 27 ≡ 0) × (m ≡ 2 ^ 25 + t / 2 ^ 27)
+SignificandOf t (Err reason) = (t % 2 ^ 27 ≡ 0 → ⊥) × (code_of reason ≡ 2)

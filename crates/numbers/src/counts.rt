@@ -1,6 +1,7 @@
 //! The kind of counts: signed whole numbers.
-ghost use Rattle.std.specs.Prelude.{◌≡◌, ◌+◌, ◌*◌, ◌%◌, ◌^◌, ◌≤◌, MatchOption, nat_lt, unsigned_abs};
+ghost use Rattle.std.specs.Prelude.{◌≡◌, ◌+◌, ◌*◌, ◌%◌, ◌^◌, ◌≤◌, MatchResult, nat_lt, unsigned_abs};
 ghost use Rattle.numbers.specs.Acceptance.{Answers};
+ghost use Rattle.numbers.specs.Refusals.{code_of};
 ghost use Rattle.numbers.specs.Counts.{count_value, is_negative, CountMade};
 
 use crate::factor::Factor;
@@ -30,10 +31,7 @@ impl Kind for Counts {
     {
         let mut halved = Halved::of(element);
         while !halved.is_short() {
-            let Some(half) = halved.halve() else {
-                return Err(Reason::NotFactor);
-            };
-            halved = half;
+            halved = halved.halve()?;
         }
         Ok(Factor {
             negative: halved.negative,
@@ -71,15 +69,15 @@ impl Halved {
         self.size < 1 << 26
     }
 
-    /// The same count, its size halved once more, or none where that would leave a remainder.
-    fn halve(self) -> Option<Halved>
+    /// The same count, its size halved once more; it is refused where that would leave a remainder.
+    fn halve(self) -> Result<Halved, Reason>
         requires limits { self.halvings ≤ 6 }
-        ensures answer { MatchOption result (self.size % 2 ≡ 1) (λ h. (h.negative ≡ self.negative) × (self.size ≡ 2 * h.size) × (h.halvings ≡ self.halvings + 1)) }
+        ensures answer { MatchResult result (λ h. (h.negative ≡ self.negative) × (self.size ≡ 2 * h.size) × (h.halvings ≡ self.halvings + 1)) (λ reason. (self.size % 2 ≡ 1) × (code_of reason ≡ 2)) }
     {
         if self.size % 2 != 0 {
-            return None;
+            return Err(Reason::NotFactor);
         }
-        Some(Halved {
+        Ok(Halved {
             negative: self.negative,
             size: self.size / 2,
             halvings: self.halvings + 1,

@@ -1,9 +1,8 @@
 //! The kind of binary64 patterns.
-ghost use Rattle.std.specs.Prelude.{◌≡◌, ◌^◌, ◌<◌, ◌&&◌, if◌then◌else◌, ◌==◌, from_bits, nat_eq};
+ghost use Rattle.std.specs.Prelude.{◌≡◌, ◌^◌, ◌<◌, ◌&&◌, ◌==◌, from_bits};
 ghost use Rattle.std.specs.Float.{binary64};
 ghost use Rattle.numbers.specs.Acceptance.{Answers};
 ghost use Rattle.numbers.specs.Patterns.{sign_of, field_of, fraction_of, pattern_value, PatternMade, ExponentOf, SignificandOf};
-ghost use Rattle.numbers.specs.Refusals.{code_of};
 ghost use Rattle.numbers.specs.Units.{float_value};
 
 use crate::factor::Factor;
@@ -36,12 +35,8 @@ impl Kind for Patterns {
         if parts.is_zero() {
             return Ok(Factor::ZERO);
         }
-        let Some(exponent) = parts.exponent() else {
-            return Err(parts.reason_outside());
-        };
-        let Some(significand) = parts.significand() else {
-            return Err(Reason::NotFactor);
-        };
+        let exponent = parts.exponent()?;
+        let significand = parts.significand()?;
         Ok(Factor {
             negative: parts.negative,
             significand,
@@ -77,35 +72,27 @@ impl Parts {
         self.field == 0 && self.fraction == 0
     }
 
-    /// The exponent of the factor, or none where the pattern lies outside the window.
-    fn exponent(self) -> Option<i32>
+    /// The exponent of the factor, or why a pattern outside the window is refused.
+    fn exponent(self) -> Result<i32, Reason>
         ensures answer { ExponentOf self.field result }
     {
-        if self.field < 512 || self.field > 1506 {
-            return None;
-        }
-        Some(self.field as i32 - 1048)
-    }
-
-    /// Why a pattern outside the window is refused.
-    fn reason_outside(self) -> Reason
-        ensures answer { code_of result ≡ (if nat_eq self.field 2047 then 1 else 2) }
-    {
         if self.field == 2047 {
-            Reason::NotFinite
-        } else {
-            Reason::NotFactor
+            return Err(Reason::NotFinite);
         }
+        if self.field < 512 || self.field > 1506 {
+            return Err(Reason::NotFactor);
+        }
+        Ok(self.field as i32 - 1048)
     }
 
-    /// The significand of the factor, or none where the fraction has bits below it.
-    fn significand(self) -> Option<u32>
+    /// The significand of the factor; a fraction with bits below it is refused.
+    fn significand(self) -> Result<u32, Reason>
         requires limits { self.fraction < 2 ^ 52 }
         ensures answer { SignificandOf self.fraction result }
     {
         if self.fraction % (1 << 27) != 0 {
-            return None;
+            return Err(Reason::NotFactor);
         }
-        Some((1 << 25) + (self.fraction >> 27) as u32)
+        Ok((1 << 25) + (self.fraction >> 27) as u32)
     }
 }

@@ -1,7 +1,8 @@
 -- Each count is answered by its value. Assumes nothing.
-use Rattle.std.proofs.Common.{◌≡◌, ℕ, ◌^◌, ◌≤◌, ℤ, pos, nat_abs, sym, refl, ap, ◌∙◌, inr, arith, w32, SFits, to_z, of_z}
+use Rattle.std.proofs.Common.{◌≡◌, ℕ, ◌^◌, ◌≤◌, ℤ, pos, nat_abs, sym, ap, ◌∙◌, inr, arith, w32, SFits, to_z, of_z}
 use Rattle.std.proofs.lemmas.Int.{to_z-of_z, to_z_pos}
 use Rattle.std.proofs.lemmas.Bool.{ltb-false}
+use Rattle.std.proofs.lemmas.Result.{err_from_is_err_and}
 use Rattle.numbers.specs.Counts.{is_negative}
 use Rattle.numbers.proofs.Halving.{few_halvings, halved, count-accepted, count-refused}
 use Rattle.numbers.proofs.counts.CountsKind.factor.Goals as goal
@@ -9,20 +10,21 @@ use Rattle.numbers.proofs.counts.CountsKind.factor.Goals as goal
 stored : (z : ℤ) (n : ℕ) → SFits w32 z → nat_abs (to_z w32 (of_z w32 z)) ≡ n → nat_abs z ≡ n
 stored z n f h = ap nat_abs (sym (to_z-of_z w32 z f)) ∙ h
 
-pub returns-in_default : goal.returns-in_default
-returns-in_default c =
+pub returns-in_err-halved : goal.returns-in_err-halved
+returns-in_err-halved c =
+    let r = err_from_is_err_and c.from_residual.result c.from_residual.ensures.1 in
     let h = c.loop-halved.halved in
     let size = stored c.args.element _ c.ranges.element c.loop-halved.invariant.0 in
     let long : 2 ^ 26 ≤ h.size = ltb-false h.size (2 ^ 26) (sym c.loop-halved-test.ensures.answer) in
-    let odd = c.in_default.ensures.answer in
-    record { answer = (count-refused c.args.element h.size h.halvings size long (λ even. omega arith), refl); made = tt }
+    let odd = c.in_err-halved.ensures.answer in
+    rw (r.1, r.2) (record { answer = (count-refused c.args.element h.size h.halvings size long (λ even. omega arith), odd.1); made = tt })
 
 pub loop-halved-preserved : goal.loop-halved-preserved
 loop-halved-preserved c =
     let h = c.loop-halved.halved in
-    let k = c.in-Some.half in
+    let k = c.in_ok-halved.halved in
     let o = c.of-halved.ensures in
-    let once = c.in-Some.ensures.answer in
+    let once = c.in_ok-halved.ensures.answer in
     let long : 2 ^ 26 ≤ h.size = ltb-false h.size (2 ^ 26) (sym c.loop-halved-test.ensures.answer) in
     let large : 2 ^ 25 ≤ k.size = omega arith in
     let size = halved _ h.size k.size h.halvings k.halvings c.loop-halved.invariant.0 once.1 once.2 in
