@@ -3,49 +3,52 @@ use crate::pieces::{Order, Set, piece_at};
 use condensers::condenser::Condenser;
 use condensers::pairing_table::PairingTable;
 use numbers::piece::Summand;
+use std::fmt;
 
 const PLACES: usize = 4096;
 
 /// What was counted.
 #[derive(Clone, Copy)]
 pub(crate) struct Additions {
-    pub(crate) all: u64,
-    pub(crate) most: u64,
-    pub(crate) occupied: u64,
+    all: usize,
+    most: usize,
+    occupied: usize,
 }
 
-fn same(a: Summand, b: Summand) -> bool {
-    a.negative == b.negative && a.significand == b.significand && a.exponent == b.exponent
+impl fmt::Display for Additions {
+    fn fmt<W: fmt::Write>(&self, f: &mut fmt::Formatter<W>) -> fmt::Result {
+        let all = self.all;
+        let most = self.most;
+        let occupied = self.occupied;
+        write!(
+            f,
+            "{all} additions, at most {most} in one put, {occupied} places occupied at the end"
+        )
+    }
 }
 
 /// How many places that were occupied have changed; the places are then as the table has them.
-fn changed(places: &mut [Summand], table: &PairingTable) -> u64 {
-    let mut made: u64 = 0;
-    for k in 0..places.len() {
+fn changed(places: &mut [Summand], table: &PairingTable) -> usize {
+    let mut made: usize = 0;
+    for (k, place) in places.iter_mut().enumerate() {
         let now = table.summand(k as u64);
-        if places[k].significand != 0 && !same(places[k], now) {
+        if place.significand != 0 && *place != now {
             made = made.wrapping_add(1);
         }
-        places[k] = now;
+        *place = now;
     }
     made
 }
 
-fn occupied(places: &[Summand]) -> u64 {
-    let mut n: u64 = 0;
-    for p in places {
-        if p.significand != 0 {
-            n = n.wrapping_add(1);
-        }
-    }
-    n
+fn occupied(places: &[Summand]) -> usize {
+    places.iter().filter(|place| place.significand != 0).count()
 }
 
 pub(crate) fn count_additions(set: Set, order: Order, count: u32) -> Additions {
     let mut table = PairingTable::new();
-    let mut places = [table.summand(u64::MAX); PLACES];
-    let mut all: u64 = 0;
-    let mut most: u64 = 0;
+    let mut places = [Summand::ZERO; PLACES];
+    let mut all: usize = 0;
+    let mut most: usize = 0;
     for i in 0..count {
         let _ = table.put(piece_at(set, order.index(i, count)));
         let made = changed(&mut places, &table);

@@ -6,7 +6,7 @@ mod pieces;
 mod small;
 mod wide;
 
-use additions::{Additions, count_additions};
+use additions::count_additions;
 use condensers::column_table::ColumnTable;
 use condensers::condenser::Condenser;
 use condensers::pairing_table::PairingTable;
@@ -29,47 +29,23 @@ fn agree(set: Set, order: Order, count: u32, expected: &Wide) -> bool {
     fill(&mut pairing, set, order, count);
     let mut columns = ColumnTable::new();
     fill(&mut columns, set, order, count);
-    Wide::of(&pairing).equals(expected) && Wide::of(&columns).equals(expected)
+    Wide::of(&pairing) == *expected && Wide::of(&columns) == *expected
 }
 
-fn report(rt: &impl Print, name: &str, set: Set, count: u32) -> io::Result<()> {
+fn report(rt: &impl Print, set: Set, count: u32) -> io::Result<()> {
     let mut first = ColumnTable::new();
     fill(&mut first, set, Order::Forward, count);
     let expected = Wide::of(&first);
-    let forward = agree(set, Order::Forward, count, &expected);
-    let backward = agree(set, Order::Backward, count, &expected);
-    let strided = agree(set, Order::Strided, count, &expected);
+    let [forward, backward, strided] = Order::ALL.map(|order| agree(set, order, count, &expected));
     let zero = expected.is_zero();
     println!(rt;
-        "{name}: {count} pieces, tables agree {forward} {backward} {strided}, sum zero {zero}"
+        "{set}: {count} pieces, tables agree {forward} {backward} {strided}, sum zero {zero}"
     )?;
-    report_additions(
-        rt,
-        name,
-        "forward",
-        count_additions(set, Order::Forward, count),
-    )?;
-    report_additions(
-        rt,
-        name,
-        "backward",
-        count_additions(set, Order::Backward, count),
-    )?;
-    report_additions(
-        rt,
-        name,
-        "strided",
-        count_additions(set, Order::Strided, count),
-    )
-}
-
-fn report_additions(rt: &impl Print, name: &str, order: &str, made: Additions) -> io::Result<()> {
-    let all = made.all;
-    let most = made.most;
-    let occupied = made.occupied;
-    println!(rt;
-        "{name}, {order}: {all} additions, at most {most} in one put, {occupied} places occupied at the end"
-    )
+    for order in Order::ALL {
+        let made = count_additions(set, order, count);
+        println!(rt; "{set}, {order}: {made}")?;
+    }
+    Ok(())
 }
 
 /// A third piece put into a condenser that holds two.
@@ -78,12 +54,7 @@ fn report_refusal(rt: &impl Print) -> io::Result<()> {
     for i in 0..3 {
         match small.put(piece_at(Set::Powers, i)) {
             Ok(()) => println!(rt; "small condenser: piece {i} put")?,
-            Err(refusal) => {
-                let code = refusal.reason.code();
-                let place = refusal.place;
-                let side = refusal.side.number();
-                println!(rt; "small condenser: piece {i} refused, {code} {place} {side}")?;
-            }
+            Err(refusal) => println!(rt; "small condenser: piece {i} refused, {refusal}")?,
         }
     }
     let count = small.put_count();
@@ -91,11 +62,11 @@ fn report_refusal(rt: &impl Print) -> io::Result<()> {
 }
 
 fn main(rt: HostRuntime) -> io::Result<()> {
-    report(&rt, "random", Set::Random, 2000)?;
-    report(&rt, "well-conditioned", Set::Conditioned, 2000)?;
-    report(&rt, "cancelling", Set::Cancelling, 2000)?;
-    report(&rt, "powers of two", Set::Powers, 1990)?;
-    report(&rt, "extremes", Set::Extremes, 8)?;
+    report(&rt, Set::Random, 2000)?;
+    report(&rt, Set::Conditioned, 2000)?;
+    report(&rt, Set::Cancelling, 2000)?;
+    report(&rt, Set::Powers, 1990)?;
+    report(&rt, Set::Extremes, 8)?;
     report_refusal(&rt)?;
     let pairing = size_of::<PairingTable>();
     let columns = size_of::<ColumnTable>();

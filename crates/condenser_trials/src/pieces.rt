@@ -1,5 +1,6 @@
 //! Sets of pieces by index, and orders in which to take them.
 use numbers::piece::Piece;
+use std::fmt;
 
 /// Which pieces.
 #[derive(Clone, Copy)]
@@ -25,7 +26,31 @@ pub(crate) enum Order {
     Strided,
 }
 
+impl fmt::Display for Set {
+    fn fmt<W: fmt::Write>(&self, f: &mut fmt::Formatter<W>) -> fmt::Result {
+        match *self {
+            Set::Random => write!(f, "random"),
+            Set::Conditioned => write!(f, "well-conditioned"),
+            Set::Cancelling => write!(f, "cancelling"),
+            Set::Powers => write!(f, "powers of two"),
+            Set::Extremes => write!(f, "extremes"),
+        }
+    }
+}
+
+impl fmt::Display for Order {
+    fn fmt<W: fmt::Write>(&self, f: &mut fmt::Formatter<W>) -> fmt::Result {
+        match *self {
+            Order::Forward => write!(f, "forward"),
+            Order::Backward => write!(f, "backward"),
+            Order::Strided => write!(f, "strided"),
+        }
+    }
+}
+
 impl Order {
+    pub(crate) const ALL: [Order; 3] = [Order::Forward, Order::Backward, Order::Strided];
+
     /// The index that comes at turn `i` of `count`.
     pub(crate) fn index(self, i: u32, count: u32) -> u32 {
         match self {

@@ -7,7 +7,7 @@ ghost use Rattle.condensers.specs.Laws.{columns_few, columns_exact};
 use condensers::column_table::ColumnTable;
 use condensers::condenser::Condenser;
 use numbers::piece::{Piece, Summand};
-use numbers::refusal::{Reason, Refusal, Side};
+use numbers::refusal::{Reason, Refusal};
 
 /// At most two pieces.
 #[derive(Drop)]
@@ -52,11 +52,7 @@ impl Condenser for Small {
 
     fn put(&mut self, piece: Piece) -> Result<(), Refusal> {
         if self.table.put_count() == 2 {
-            return Err(Refusal {
-                reason: Reason::Full,
-                place: 0,
-                side: Side::Neither,
-            });
+            return Err(Refusal::at(Reason::Full, 0));
         }
         self.table.put(piece)
     }

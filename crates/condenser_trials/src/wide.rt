@@ -4,8 +4,11 @@ use numbers::piece::Summand;
 
 const DIGITS: usize = 70;
 
-/// Digits of 32 bits, lowest first; the highest one is signed.
-#[derive(Drop)]
+/// One more than the largest digit.
+const DIGIT: u128 = 0x1_0000_0000;
+
+/// Digits of 32 bits, lowest first, of a number modulo 2^2240, which no sum of summands reaches.
+#[derive(Drop, PartialEq, Eq)]
 pub(crate) struct Wide {
     digits: [i64; DIGITS],
 }
@@ -23,57 +26,35 @@ impl Wide {
         wide
     }
 
-    fn add_digit(&mut self, at: usize, negative: bool, digit: i64) {
-        if at < DIGITS {
-            let old = self.digits[at];
-            self.digits[at] = if negative {
-                old.wrapping_sub(digit)
+    fn add(&mut self, summand: Summand) {
+        let rank = summand.rank();
+        let size = (summand.significand as u128) << (rank % 32);
+        let parts = [
+            (size % DIGIT) as i64,
+            (size / DIGIT % DIGIT) as i64,
+            (size / DIGIT / DIGIT % DIGIT) as i64,
+        ];
+        let digits = self.digits.iter_mut().skip((rank / 32) as usize);
+        for (digit, part) in digits.zip(parts) {
+            *digit = if summand.negative {
+                digit.wrapping_sub(part)
             } else {
-                old.wrapping_add(digit)
+                digit.wrapping_add(part)
             };
         }
     }
 
-    fn add(&mut self, summand: Summand) {
-        let rank = (summand.exponent + 1074) as u32;
-        let first = (rank / 32) as usize;
-        let size = (summand.significand as u128) << (rank % 32);
-        self.add_digit(first, summand.negative, (size % 0x1_0000_0000) as i64);
-        self.add_digit(
-            first + 1,
-            summand.negative,
-            (size / 0x1_0000_0000 % 0x1_0000_0000) as i64,
-        );
-        self.add_digit(
-            first + 2,
-            summand.negative,
-            (size / 0x1_0000_0000_0000_0000 % 0x1_0000_0000) as i64,
-        );
-    }
-
+    /// Brings every digit below 2^32.
     fn carry(&mut self) {
-        for j in 0..DIGITS - 1 {
-            let up = self.digits[j] >> 32;
-            self.digits[j] = self.digits[j] & 0xffff_ffff;
-            self.digits[j + 1] = self.digits[j + 1].wrapping_add(up);
+        let mut carried: i64 = 0;
+        for digit in self.digits.iter_mut() {
+            let sum = digit.wrapping_add(carried);
+            *digit = sum & 0xffff_ffff;
+            carried = sum >> 32;
         }
-    }
-
-    pub(crate) fn equals(&self, other: &Wide) -> bool {
-        for j in 0..DIGITS {
-            if self.digits[j] != other.digits[j] {
-                return false;
-            }
-        }
-        true
     }
 
     pub(crate) fn is_zero(&self) -> bool {
-        for j in 0..DIGITS {
-            if self.digits[j] != 0 {
-                return false;
-            }
-        }
-        true
+        self.digits.iter().all(|digit| *digit == 0)
     }
 }
