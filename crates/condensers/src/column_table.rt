@@ -1,9 +1,9 @@
 //! The column table: a condenser of 64 signed columns, column j weighing 2^(32 j) units, that takes pieces in parts of 32 bits without carries.
-ghost use Rattle.std.specs.Prelude.{◌≡◌, ℕ, ◌+◌, ◌*◌, ◌%◌, ◌^◌, ◌<◌, ◌≤◌, length, pos, ◌+ℤ◌, MatchOption, slice_index_or, slice_set, unsigned_abs};
+ghost use Rattle.std.specs.Prelude.{◌≡◌, ℕ, ◌+◌, ◌*◌, ◌%◌, ◌^◌, ◌<◌, ◌≤◌, length, pos, ◌+ℤ◌, slice_index_or, slice_set, unsigned_abs};
 ghost use Rattle.std.proofs.Common.{lit≤};
 ghost use Rattle.numbers.specs.Units.{rank, signed};
 ghost use Rattle.numbers.specs.Products.{piece_units};
-ghost use Rattle.condensers.specs.Meaning.{PutAnswer, PutAfter, StandsAt};
+ghost use Rattle.condensers.specs.Meaning.{PutAnswer, PutAfter};
 ghost use Rattle.condensers.specs.Columns.{column_total, low_summand, high_summand, empty_columns, Gains, PutGains, summands_from};
 ghost use Rattle.condensers.specs.Laws.{columns_few, columns_exact};
 

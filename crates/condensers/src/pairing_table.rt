@@ -1,10 +1,10 @@
 //! The pairing table: a condenser that keeps binary64 numbers, each at the place of its exponent field and lowest fraction bit, and adds two of one place exactly.
-ghost use Rattle.std.specs.Prelude.{◌≡◌, ◌+◌, ◌*◌, ◌<◌, ◌≤◌, T, map, length, pos, ◌+ℤ◌, slice_set, to_bits};
+ghost use Rattle.std.specs.Prelude.{◌≡◌, ◌+◌, ◌*◌, ◌<◌, ◌≤◌, T, map, length, pos, ◌+ℤ◌, to_bits};
 ghost use Rattle.std.specs.Float.{binary64};
 ghost use Rattle.std.proofs.Common.{lit≤};
 ghost use Rattle.numbers.specs.Patterns.{field_of};
 ghost use Rattle.numbers.specs.Products.{piece_units};
-ghost use Rattle.condensers.specs.Meaning.{PutAnswer, PutAfter, StandsAt};
+ghost use Rattle.condensers.specs.Meaning.{PutAnswer, PutAfter};
 ghost use Rattle.condensers.specs.Pairing.{float_units, size, total_of, sum_of, stand_from, piece_limit, summand_of, empty_table, Enters, PieceEnters, PutEnters};
 ghost use Rattle.condensers.specs.Laws.{entries_few, entries_exact};
 
@@ -35,14 +35,6 @@ fn no_entries() -> [f64; PLACES]
     [0.0; PLACES]
 }
 
-/// Puts a number, or +0 to empty it, at a place.
-fn store(entries: &mut [f64; PLACES], place: usize, number: f64)
-    requires { place < length entries.old }
-    ensures after { entries.new ≡ slice_set entries.old place number }
-{
-    entries[place] = number;
-}
-
 impl PairingTable {
     /// A table with nothing in it.
     pub fn new() -> PairingTable
@@ -69,10 +61,10 @@ impl PairingTable {
             let place = place_of(moving);
             let held = self.entries[place];
             if held == 0.0 {
-                store(&mut self.entries, place, moving);
+                self.entries[place] = moving;
                 return;
             }
-            store(&mut self.entries, place, 0.0);
+            self.entries[place] = 0.0;
             moving = sum_of_pair(moving, held);
         }
     }

@@ -1,5 +1,5 @@
 -- Each turn stores the number or pairs it; the steps are those of `Entering`. Assumes nothing.
-use Rattle.std.proofs.Common.{◌≡◌, ℕ, true, T, List, ◌+ℤ◌, sym, ap, ◌∙◌, subst}
+use Rattle.std.proofs.Common.{◌≡◌, ℕ, true, T, List, ◌+ℤ◌, sym, refl, ap, ◌∙◌, subst}
 use lib.IntN.{+ℤ_idr}
 use lib.Ieee.{Float, binary64, ne, of_bits}
 use Rattle.condensers.specs.declared.pairing_table.PairingTable.{PairingTable}
@@ -15,21 +15,18 @@ turn s i at m = record { long = s.long; standing = s.standing; few = s.few; fitt
 pub invariant_of-self : goal.invariant_of-self
 invariant_of-self c =
     let w = turn c.loop-moving.self c.loop-moving.invariant c.place_of-place.ensures.answer c.loop-moving-test.true in
-    let e = c.store.ensures.after in
-    record { long = E.stored-long w _ e; standing = E.stored_standing w _ e; bounded = E.stored_bounded w _ e; few = c.loop-moving.self.few }
+    record { long = E.stored-long w _ refl; standing = E.stored_standing w _ refl; bounded = E.stored_bounded w _ refl; few = c.loop-moving.self.few }
 
 pub returns-then-held : goal.returns-then-held
 returns-then-held c =
     let i = c.loop-moving.invariant in
     let w = turn c.loop-moving.self i c.place_of-place.ensures.answer c.loop-moving-test.true in
-    let e = c.store.ensures.after in
-    record { total = E.stored_total w _ e c.if-held.true ∙ i.total; count = i.counted; kept = i.enters _ (E.stored-enters w _ e c.if-held.true) }
+    record { total = E.stored_total w _ refl c.if-held.true ∙ i.total; count = i.counted; kept = i.enters _ (E.stored-enters w _ refl c.if-held.true) }
 
 pub invariant_of-self-in-loop-moving : goal.invariant_of-self-in-loop-moving
 invariant_of-self-in-loop-moving c =
     let w = turn c.loop-moving.self c.loop-moving.invariant c.place_of-place.ensures.answer c.loop-moving-test.true in
-    let e = c.store-in-loop-moving.ensures.after in
-    record { long = E.paired_long w _ e; standing = E.paired_standing w _ e; bounded = E.paired_bounded w _ e; few = c.loop-moving.self.few }
+    record { long = E.paired_long w _ refl; standing = E.paired_standing w _ refl; bounded = E.paired_bounded w _ refl; few = c.loop-moving.self.few }
 
 pub sum_of_pair-moving-requires : goal.sum_of_pair-moving-requires
 sum_of_pair-moving-requires c =
@@ -39,22 +36,21 @@ sum_of_pair-moving-requires c =
 pub loop-moving-smaller : goal.loop-moving-smaller
 loop-moving-smaller c =
     let w = turn c.loop-moving.self c.loop-moving.invariant c.place_of-place.ensures.answer c.loop-moving-test.true in
-    E.fewer w _ c.store-in-loop-moving.ensures.after c.if-held.false
+    E.fewer w _ refl c.if-held.false
 
 pub loop-moving-preserved : goal.loop-moving-preserved
 loop-moving-preserved c =
     let i = c.loop-moving.invariant in
     let w = turn c.loop-moving.self i c.place_of-place.ensures.answer c.loop-moving-test.true in
-    let e = c.store-in-loop-moving.ensures.after in
     let s = c.sum_of_pair-moving in
     let r = s.ensures in
     record {
       fitting = subst T (sym s.type_inv) tt;
       finite = r.limits;
-      within = E.sum_bounded w _ e c.if-held.false s.result r.answer r.value;
+      within = E.sum_bounded w _ refl c.if-held.false s.result r.answer r.value;
       counted = i.counted;
-      total = E.sum_total w _ e c.if-held.false s.result r.answer r.value ∙ i.total;
-      enters = λ u q. i.enters u (E.sum-enters w _ e c.if-held.false s.result r.answer r.value u q);
+      total = E.sum_total w _ refl c.if-held.false s.result r.answer r.value ∙ i.total;
+      enters = λ u q. i.enters u (E.sum-enters w _ refl c.if-held.false s.result r.answer r.value u q);
     }
 
 pub returns : goal.returns
