@@ -1,5 +1,5 @@
 -- The pattern of a number of so many units: the significand moved up to 53 digits, below the field and the sign. Assumes nothing.
-use Rattle.std.proofs.Common.{◌≡◌, ℕ, suc, ◌+◌, ◌-◌, ◌*◌, ◌%◌, ◌^◌, ◌<◌, ◌≤◌, min, Bool, true, false, not, T, ltb, ◌⊎◌, sym, refl, ap, ◌∙◌, subst, ap₂, inl, inr, le_of_lt, lt_of_le_of_lt, mul-le-mul_right, mod-eq_of_lt, mul_assoc, mul-le-mul_left, mul-lt-mul_of_pos_right, zero-add, arith, ltb→lt, nltb→le, pow_pos, pow_mono, pow-add, le-leb}
+use Rattle.std.proofs.Common.{◌≡◌, ℕ, suc, ◌+◌, ◌-◌, ◌*◌, ◌%◌, ◌^◌, ◌<◌, ◌≤◌, min, Bool, true, false, not, T, ltb, ◌⊎◌, sym, ap, ◌∙◌, subst, ap₂, inl, inr, le_of_lt, lt_of_le_of_lt, mul-le-mul_right, mod-eq_of_lt, mul_assoc, mul-le-mul_left, mul-lt-mul_of_pos_right, arith, ltb→lt, nltb→le, pow_pos, pow_mono, pow-add}
 use lib.Count.{count_leading_zeros, leading_top}
 use Rattle.std.proofs.Math.Nat.{min-eq_left, min-eq_right}
 use borrow.Author.Tests.{lt-leb}
@@ -24,30 +24,30 @@ piece_rank p s r h e = let f : r ≡ rank p.exponent = e ∙ ap rank h.exponent_
 
 -- ---- a pattern by its height and its significand
 
--- a pattern, with a sign bit d or none
+-- a positive pattern
 abbrev pub Built : ℕ → ℕ → ℕ → Type 0
 Built b w q = (field_of b < 2047) × (significand_of b ≡ q) × (height_of b ≡ w)
 
-module _ (w q d : ℕ) (hq : q < 2 ^ 53) (hw : w ≤ 2044) (hd : (d ≡ 0) ⊎ (d ≡ 2 ^ 63)) where
-  built_normal : 2 ^ 52 ≤ q → Built (d + (w * 2 ^ 52 + q)) w q
+module _ (w q : ℕ) (hq : q < 2 ^ 53) (hw : w ≤ 2044) where
+  built_normal : 2 ^ 52 ≤ q → Built (w * 2 ^ 52 + q) w q
   built_normal lead =
-      let b = d + (w * 2 ^ 52 + q) in
+      let b = w * 2 ^ 52 + q in
       let f : field_of b ≡ suc w = omega arith in
       let r : 2 ^ 52 + b % 2 ^ 52 ≡ q = omega arith in
       (omega arith, ap (λ (x : ℕ). leading x + b % 2 ^ 52) f ∙ r, omega arith)
 
-  built_low : w ≡ 0 → q < 2 ^ 52 → Built (d + (w * 2 ^ 52 + q)) w q
+  built_low : w ≡ 0 → q < 2 ^ 52 → Built (w * 2 ^ 52 + q) w q
   built_low lead small =
-      let b = d + (w * 2 ^ 52 + q) in
+      let b = w * 2 ^ 52 + q in
       let f : field_of b ≡ 0 = omega arith in
       let r : 0 + b % 2 ^ 52 ≡ q = omega arith in
       (omega arith, ap (λ (x : ℕ). leading x + b % 2 ^ 52) f ∙ r, omega arith)
 
-  pub built : (2 ^ 52 ≤ q) ⊎ (w ≡ 0) → Built (d + (w * 2 ^ 52 + q)) w q
+  pub built : (2 ^ 52 ≤ q) ⊎ (w ≡ 0) → Built (w * 2 ^ 52 + q) w q
   built (inl lead) = built_normal lead
   built (inr e) = go (ltb q (2 ^ 52)) (ltb→lt q (2 ^ 52)) (nltb→le q (2 ^ 52))
     where
-      go : (b : Bool) → (T b → q < 2 ^ 52) → (T (not b) → 2 ^ 52 ≤ q) → Built (d + (w * 2 ^ 52 + q)) w q
+      go : (b : Bool) → (T b → q < 2 ^ 52) → (T (not b) → 2 ^ 52 ≤ q) → Built (w * 2 ^ 52 + q) w q
       go true l g = built_low e (l tt)
       go false l g = built_normal (g tt)
 
@@ -89,22 +89,13 @@ moved-pattern P R S p s r m =
     let l : q < 2 ^ 53 = u.1 in
     let e : q % 2 ^ 64 ≡ q = mod-eq_of_lt (omega arith) in
     let b = (R - S) * 2 ^ 52 + q in
-    let t = subst (λ (x : ℕ). Built x (R - S) q) (zero-add b) (built (R - S) q 0 l (omega arith) (inl refl) u.2) in
+    let t = built (R - S) q l (omega arith) u.2 in
     let v : significand_of b * 2 ^ height_of b ≡ P * 2 ^ R = ap₂ (λ (x y : ℕ). x * 2 ^ y) t.1 t.2 ∙ shifted P R S u.0 in
     subst (λ (x : ℕ). let d = (R - S) * 2 ^ 52 + x in (d < 2 ^ 63) × (field_of d < 2047) × (significand_of d * 2 ^ height_of d ≡ P * 2 ^ R)) (sym e) (omega arith, t.0, v)
   where
     shifted : (P R S : ℕ) → S ≤ R → P * 2 ^ S * 2 ^ (R - S) ≡ P * 2 ^ R
     shifted P R S h = mul_assoc P (2 ^ S) (2 ^ (R - S)) ∙ ap (λ (x : ℕ). P * x) (sym (pow-add 2 S (R - S)) ∙ ap (λ (x : ℕ). 2 ^ x) {x = S + (R - S)} {y = R} (omega arith))
 
--- a positive pattern, and the one with the sign bit set
+-- a positive pattern has no sign bit
 pub plus_sign : (p : ℕ) → p < 2 ^ 63 → sign_of p ≡ false
 plus_sign p h = lt-leb (2 ^ 63) p h
-
-pub minus_sign : (p : ℕ) → sign_of (2 ^ 63 + p) ≡ true
-minus_sign p = le-leb (2 ^ 63) (2 ^ 63 + p) (omega arith)
-
-pub signed_field : (p : ℕ) → field_of (2 ^ 63 + p) ≡ field_of p
-signed_field p = omega arith
-
-pub signed_fraction : (p : ℕ) → (2 ^ 63 + p) % 2 ^ 52 ≡ p % 2 ^ 52
-signed_fraction p = omega arith

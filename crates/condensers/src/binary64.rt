@@ -14,8 +14,6 @@ use numbers::piece::{Piece, Summand};
 
 /// The weight of the exponent field in a pattern.
 const FIELD: u64 = 0x10_0000_0000_0000;
-/// The sign bit of a pattern.
-const SIGN: u64 = 0x8000_0000_0000_0000;
 
 /// The pattern of the size of a piece other than zero.
 fn pattern_of(piece: Piece) -> u64
@@ -36,12 +34,8 @@ pub(crate) fn number_of(piece: Piece) -> f64
     if piece.significand == 0 {
         return 0.0;
     }
-    let pattern = pattern_of(piece);
-    if piece.negative {
-        f64::from_bits(SIGN + pattern)
-    } else {
-        f64::from_bits(pattern)
-    }
+    let size = f64::from_bits(pattern_of(piece));
+    if piece.negative { -size } else { size }
 }
 
 /// The exponent field of a pattern.
@@ -90,7 +84,7 @@ pub(crate) fn summand_of(entry: f64) -> Summand
     let bits = entry.to_bits();
     let field = exponent_field(bits);
     summand_at(
-        bits >= SIGN,
+        entry.is_sign_negative(),
         leading_of(field) + bits % FIELD,
         field.saturating_sub(1) as u32,
     )
