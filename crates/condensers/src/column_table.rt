@@ -37,20 +37,24 @@ fn no_columns() -> [i64; COLUMNS]
 }
 
 /// The low 32 bits of the size of the column at `place`.
-fn low_summand(place: u32, column: i64) -> Summand
+fn low_summand(place: usize, column: i64) -> Summand
     requires { place < 64 }
     ensures answer { result ≡ low_summand place column }
 {
-    summand_at(column < 0, column.unsigned_abs() % PART, 32 * place)
+    summand_at(column < 0, column.unsigned_abs() % PART, 32 * place as u32)
 }
 
 /// The rest of the size of the column at `place`, at 2^32 times its weight.
-fn high_summand(place: u32, column: i64) -> Summand
+fn high_summand(place: usize, column: i64) -> Summand
     requires inside { place < 64 }
     requires within { unsigned_abs column ≤ 67108864 * 4294967295 }
     ensures answer { result ≡ high_summand place column }
 {
-    summand_at(column < 0, column.unsigned_abs() / PART, 32 * place + 32)
+    summand_at(
+        column < 0,
+        column.unsigned_abs() / PART,
+        32 * place as u32 + 32,
+    )
 }
 
 impl ColumnTable {
@@ -156,9 +160,9 @@ impl Condenser for ColumnTable {
             return Summand::ZERO;
         };
         if k % 2 == 0 {
-            low_summand(place as u32, *column)
+            low_summand(place, *column)
         } else {
-            high_summand(place as u32, *column)
+            high_summand(place, *column)
         }
     }
 }
