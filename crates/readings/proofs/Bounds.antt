@@ -1,10 +1,10 @@
 -- The limits of summands and sums fit the limbs. Assumes nothing.
-use Rattle.std.proofs.Common.{◌≡◌, ℕ, ◌+◌, ◌*◌, ◌^◌, ◌<◌, ◌≤◌, pos, ◌+ℤ◌, ◌-ℤ◌, neg_ℤ, sym, ap, ◌∙◌, subst, le_trans, le_of_eq, lt_of_le_of_lt, add-le-add, mul-le-mul_right, suc-mul, arith, lit<}
+use Rattle.std.proofs.Common.{◌≡◌, ℕ, ◌+◌, ◌*◌, ◌^◌, ◌<◌, ◌≤◌, pos, ◌+ℤ◌, ◌-ℤ◌, neg_ℤ, sym, ap, ◌∙◌, le_trans, le_of_eq, lt_of_le_of_lt, add-le-add, mul-le-mul_right, suc-mul, arith, lit<}
 use borrow.Author.Differences.{ints}
 use Rattle.numbers.specs.Units.{rank}
 use Rattle.readings.specs.Limbs.{summand_limit}
 
-limit_fits : 65536 * summand_limit < 2 ^ (64 * 33)
+limit_fits : 65536 * summand_limit < 2 ^ 2112
 unfolding rank
 limit_fits = lit< tt
 
@@ -15,10 +15,8 @@ more n t v h k = le_trans (add-le-add h k) (le_of_eq (sym (suc-mul t summand_lim
 pub same : (n t : ℕ) → n ≤ t * summand_limit → n ≤ (t + 1) * summand_limit
 same n t h = le_trans h (mul-le-mul_right summand_limit (omega arith))
 
-pub room : (n t v len : ℕ) → len ≡ 33 → t < 65536 → n ≤ t * summand_limit → v ≤ summand_limit → n + v < 2 ^ (64 * len)
-room n t v len e T h k =
-    subst (λ (a : ℕ). n + v < 2 ^ (64 * a)) (sym e)
-    (lt_of_le_of_lt (le_trans (more n t v h k) (mul-le-mul_right summand_limit (omega arith))) limit_fits)
+pub room : (n t v : ℕ) → t < 65536 → n ≤ t * summand_limit → v ≤ summand_limit → n + v < 2 ^ 2112
+room n t v T h k = lt_of_le_of_lt (le_trans (more n t v h k) (mul-le-mul_right summand_limit (omega arith))) limit_fits
 
 -- the largest size of 65,536 summands
 unfoldable pub sum_limit : ℕ

@@ -1,12 +1,20 @@
 -- Numbers written in limbs of 64 bits: one limb changed, the lowest limbs, a limb read back. Assumes nothing.
-use Rattle.std.proofs.Common.{◌≡◌, ℕ, zero, suc, ◌+◌, ◌-◌, ◌*◌, ◌/◌, ◌%◌, ◌^◌, ◌<◌, ◌≤◌, ◌≢◌, ◌⊎◌, List, [], ◌∷◌, length, get_or, take, drop, set, sym, refl, ap, ◌∙◌, subst, inl, inr, le_trans, le_of_eq, le_refl, le_of_suc-le-suc, not-suc-le-zero, add-zero, add-suc, mul-le-mul_right, zero-lt-suc, mul_assoc, suc-mul, mul_comm, add-mul, add-sub_of_le, eq-zero-or-pos, add_comm, le_antisymm, mul-pos, lt_of_not-le, zero-mul, not-le_of_lt, mul_left_comm, le-add_left, add-one, arith, pow_pos, pow_mono, pow-add, shl_exact, shr-shr}
-use native.Mathlib.Nat.{zero-mod, mul-add-mod_self_left}
+use Rattle.std.proofs.Common.{◌≡◌, ℕ, Bool, not, ◌||◌, ltb, lt→ltb, zero, suc, ◌+◌, ◌-◌, ◌*◌, ◌/◌, ◌%◌, ◌^◌, ◌<◌, ◌≤◌, ◌≢◌, List, [], ◌∷◌, length, get_or, take, drop, set, sym, refl, ap, ◌∙◌, subst, le_trans, le_of_eq, le_refl, le_of_suc-le-suc, not-suc-le-zero, add-zero, add-suc, mul-le-mul_right, zero-lt-suc, mul_assoc, suc-mul, mul_comm, add-mul, add-sub_of_le, add_comm, le_antisymm, lt_of_not-le, zero-mul, not-le_of_lt, mul_left_comm, le-add_left, add-one, arith, pow_pos, pow_mono, pow-add, shl_exact, shr-shr}
+use native.Mathlib.Nat.{mul-add-mod_self_left}
 use lib.Arith.{digits_div, digits_mod, digits_lt}
-use lib.Pow.{field, mod-pow-add, mod-mod-pow}
+use lib.Pow.{field, mod-pow-add}
+use lib.Count.{count_leading_zeros, leading_top}
+use lib.Dec.{eqb-suc-zero}
 use lib.Ieee.{size}
+use lib.Ieee.Bits.{is_true}
 use lib.Ieee.Digits.{size-lt, size-le}
-use Rattle.std.proofs.lemmas.List.{take_all, take-set, length-set, get_or-set_same}
+use Rattle.std.proofs.lemmas.List.{take_all}
+use Rattle.std.specs.List.{list_any}
+use Rattle.std.specs.Prelude.{◌==◌, EachIndex}
 use Rattle.readings.specs.Limbs.{natural}
+
+abbrev pub Limbs : List ℕ → Type 0
+Limbs xs = (i : ℕ) → get_or xs i 0 < 2 ^ 64
 
 pub weight_more : (i : ℕ) → 2 ^ (64 * suc i) ≡ 2 ^ 64 * 2 ^ (64 * i)
 weight_more i = ap (λ (a : ℕ). 2 ^ a) (omega arith) ∙ pow-add 2 64 (64 * i)
@@ -33,6 +41,14 @@ natural_more (x ∷ xs) (suc i) h =
     let ih = natural_more xs i (le_of_suc-le-suc h) in
     let e1 = raised (get_or xs i 0) i in
     omega arith
+
+-- limbs of which one is written
+pub limbs-set : (xs : List ℕ) (i v : ℕ) → Limbs xs → v < 2 ^ 64 → Limbs (set xs i v)
+limbs-set [] i v h V j = h j
+limbs-set (x ∷ xs) zero v h V zero = V
+limbs-set (x ∷ xs) zero v h V (suc j) = h (suc j)
+limbs-set (x ∷ xs) (suc i) v h V zero = h 0
+limbs-set (x ∷ xs) (suc i) v h V (suc j) = limbs-set xs i v (λ k. h (suc k)) V j
 
 -- a carry on its way: the limb l and the carry c at the weight w become l' and, one place up, c'
 pub carry_step : (n n' w l l' c c' t : ℕ) → l + c ≡ l' + c' * 2 ^ 64 → n' + l * w ≡ n + l' * w → n + c * w ≡ t → n' + c' * (2 ^ 64 * w) ≡ t
@@ -75,9 +91,6 @@ subtract_turn xs ys i b t h k B X Y inv =
     ∙ ap (λ (a : ℕ). t + (1 - s / 2 ^ 64) * a) (sym (ap (λ (a : ℕ). 2 ^ (64 * a)) (add-one i) ∙ weight_more i))
 
 -- ---- the limbs below a place and those from it up
-
-abbrev pub Limbs : List ℕ → Type 0
-Limbs xs = (i : ℕ) → get_or xs i 0 < 2 ^ 64
 
 pub natural_split : (xs : List ℕ) (i : ℕ) → natural xs ≡ natural (drop i xs) * 2 ^ (64 * i) + natural (take i xs)
 unfolding natural
@@ -179,32 +192,41 @@ below_is xs cut h =
     ∙ ap (λ (a : ℕ). a * 2 ^ (64 * i) + n % 2 ^ (64 * i)) (ap (λ (a : ℕ). a % 2 ^ o) (high_limbs xs i h) ∙ low)
     ∙ ap (λ (a : ℕ). x % 2 ^ o * 2 ^ (64 * i) + a) (low_limbs xs i h)
 
--- a limb below the bit that is not zero, with zeros below it
-pub shows : (xs : List ℕ) (cut i : ℕ) → Limbs xs → i < length xs → i < cut / 64 → get_or xs i 0 ≢ 0 → natural (take i xs) ≡ 0 → 0 < natural xs % 2 ^ cut
-shows xs cut i h l k g z = go (eq-zero-or-pos (natural xs % 2 ^ cut))
-  where
-    n : ℕ
-    n = natural xs
+-- two numbers that are zero together
+tests : (a b : ℕ) → (a ≡ 0 → b ≡ 0) → (0 < a → 0 < b) → ltb 0 a ≡ ltb 0 b
+tests zero b z p = ap (ltb 0) (sym (z refl))
+tests (suc a) b z p = is_true (ltb 0 (suc a)) (lt→ltb 0 (suc a) (zero-lt-suc a)) ∙ sym (is_true (ltb 0 b) (lt→ltb 0 b (p (zero-lt-suc a))))
 
-    room : cut - 64 * suc i + 64 * suc i ≡ cut
-    room = omega arith
-
-    some : natural (take (suc i) xs) ≡ 0 → ⊥
-    some e = let m = natural_more xs i l in let p = mul-pos (positive (get_or xs i 0) g) (pow_pos (64 * i)) in omega arith
-      where
-        positive : (a : ℕ) → a ≢ 0 → 0 < a
-        positive a g = omega arith
-
-    go : (natural xs % 2 ^ cut ≡ 0) ⊎ (0 < natural xs % 2 ^ cut) → 0 < natural xs % 2 ^ cut
-    go (inr p) = p
-    go (inl e) = absurd (some
-        (sym (low_limbs xs (suc i) h)
-        ∙ sym (mod-mod-pow (natural xs) (cut - 64 * suc i) (64 * suc i))
-        ∙ ap (λ (a : ℕ). natural xs % 2 ^ a % 2 ^ (64 * suc i)) room
-        ∙ ap (λ (a : ℕ). a % 2 ^ (64 * suc i)) e
-        ∙ zero-mod (2 ^ (64 * suc i))))
+-- some limb is not zero where the number is not
+pub any_limb : (xs : List ℕ) → list_any (λ x. not (x == 0)) xs ≡ ltb 0 (natural xs)
+unfolding natural
+any_limb [] = refl
+any_limb (zero ∷ xs) = any_limb xs ∙ tests (natural xs) (0 + 2 ^ 64 * natural xs) (λ h. omega arith) (λ h. omega arith)
+any_limb (suc x ∷ xs) =
+    ap (λ (b : Bool). not b || list_any (λ y. not (y == 0)) xs) (eqb-suc-zero x)
+    ∙ sym (is_true (ltb 0 (suc x + 2 ^ 64 * natural xs)) (lt→ltb 0 (suc x + 2 ^ 64 * natural xs) (omega arith)))
 
 -- ---- the number of bits
+
+all-zero : (xs : List ℕ) → EachIndex xs (λ j. get_or xs j 0 ≡ 0) → natural xs ≡ 0
+unfolding natural
+all-zero [] h = refl
+all-zero (x ∷ xs) h =
+    let e = all-zero xs (λ j l. h (suc j) (omega arith)) in
+    let z : x ≡ 0 = h 0 (omega arith) in
+    omega arith
+
+-- with zeros above a limb, the number is made of that limb and those below it
+highest : (xs : List ℕ) (t : ℕ) → t < length xs → EachIndex xs (λ j. t < j → get_or xs j 0 ≡ 0) → natural xs ≡ natural (take t xs) + get_or xs t 0 * 2 ^ (64 * t)
+unfolding natural
+highest [] t l h = absurd (not-suc-le-zero l)
+highest (x ∷ xs) zero l h =
+    let e = all-zero xs (λ j k. h (suc j) (omega arith) (zero-lt-suc j)) in
+    omega arith
+highest (x ∷ xs) (suc t) l h =
+    let ih = highest xs t (le_of_suc-le-suc l) (λ j k g. h (suc j) (omega arith) (omega arith)) in
+    let e1 = raised (get_or xs t 0) t in
+    omega arith
 
 -- a number that reaches 2 ^ j has more than j bits
 pub size_gt : (n j : ℕ) → 2 ^ j ≤ n → j < size n
@@ -217,6 +239,19 @@ size_above r x k m R lo hi =
     let top : n < 2 ^ (k + suc m) = subst (λ (a : ℕ). n < a) (mul_comm (2 ^ suc m) (2 ^ k) ∙ sym (pow-add 2 k (suc m))) (subst (λ (a : ℕ). a < 2 ^ suc m * 2 ^ k) (add_comm (x * 2 ^ k) r) (digits_lt hi R)) in
     let bottom : 2 ^ (k + m) ≤ n = le_trans (le_of_eq (pow-add 2 k m ∙ mul_comm (2 ^ k) (2 ^ m))) (le_trans (mul-le-mul_right (2 ^ k) lo) (le-add_left (x * 2 ^ k) r)) in
     le_antisymm (size-le n (k + suc m) top) (le_trans (le_of_eq (add-suc k m)) (size_gt n (k + m) bottom))
+
+-- the bits of a number by its highest limb that is not zero
+pub top_bits : (xs : List ℕ) (t : ℕ) → Limbs xs → t < length xs → get_or xs t 0 ≢ 0 → EachIndex xs (λ j. t < j → get_or xs j 0 ≡ 0)
+    → 64 * t + (64 - count_leading_zeros 64 (get_or xs t 0)) ≡ size (natural xs)
+top_bits xs t f l g h =
+    let x = get_or xs t 0 in
+    let b = leading_top 64 x (omega arith) (f t) in
+    let e : 64 * t + (64 - count_leading_zeros 64 x) ≡ 64 * t + suc b.0 = omega (arith, b.1) in
+    e ∙ sym (size_above (natural (take t xs)) x (64 * t) b.0 (take_lt xs t f) b.2 b.3) ∙ ap size (sym (highest xs t l h))
+
+pub no_bits : (xs : List ℕ) → EachIndex xs (λ j. get_or xs j 0 ≡ 0) → 0 ≡ size (natural xs)
+unfolding size
+no_bits xs h = sym (ap size (all-zero xs h))
 
 -- ---- a number that is added at any bit
 
@@ -253,15 +288,3 @@ placed n₀ n₁ n₂ r₁ r₂ s shift len S a b h =
     let b' : n₂ + r₂ * 2 ^ (64 * len) ≡ n₁ + s * 2 ^ o % 2 ^ 128 / 2 ^ 64 * (2 ^ 64 * w) = b ∙ ap (λ (x : ℕ). n₁ + s * 2 ^ o % 2 ^ 128 / 2 ^ 64 * x) i' in
     no_carry n₀ n₁ n₂ r₁ r₂ (s * 2 ^ o % 2 ^ 128 % 2 ^ 64 * w) (s * 2 ^ o % 2 ^ 128 / 2 ^ 64 * (2 ^ 64 * w)) (s * 2 ^ shift) (2 ^ (64 * len)) a b'
     (halves (s * 2 ^ o % 2 ^ 128) w ∙ ap (λ (x : ℕ). x * w) d ∙ v) h
-
--- what is written stays below its weight
-pub written_lt : (xs : List ℕ) (i v : ℕ) → i < length xs → v < 2 ^ 64 → natural (take i xs) < 2 ^ (64 * i) → natural (take (i + 1) (set xs i v)) < 2 ^ (64 * (i + 1))
-written_lt xs i v h V low =
-    let ys = set xs i v in
-    let e : natural (take (i + 1) ys) ≡ v * 2 ^ (64 * i) + natural (take i xs) =
-    ap (λ (a : ℕ). natural (take a ys)) (add-one i)
-    ∙ natural_more ys i (subst (λ (a : ℕ). i < a) (sym (length-set xs i v)) h)
-    ∙ ap (λ (a : ℕ). natural (take i ys) + a * 2 ^ (64 * i)) (get_or-set_same xs i v 0 h)
-    ∙ ap (λ (a : List ℕ). natural a + v * 2 ^ (64 * i)) (take-set xs i v)
-    ∙ add_comm (natural (take i xs)) (v * 2 ^ (64 * i)) in
-    subst (λ (a : ℕ). a < 2 ^ (64 * (i + 1))) (sym e) (subst (λ (a : ℕ). v * 2 ^ (64 * i) + natural (take i xs) < a) (sym (ap (λ (a : ℕ). 2 ^ (64 * a)) (add-one i) ∙ weight_more i)) (digits_lt V low))

@@ -32,7 +32,7 @@ pub short_limit_lem : short_limit ≡ largest binary32
 unfolding short_limit largest rank
 short_limit_lem = refl
 
-pub short-room : largest binary32 < 2 ^ (64 * 33)
+pub short-room : largest binary32 < 2 ^ 2112
 unfolding largest
 short-room = lit< tt
 

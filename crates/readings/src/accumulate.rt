@@ -1,25 +1,13 @@
 //! How a sum is made: one summand at a time, from any source.
-ghost use Rattle.std.specs.Prelude.{◌≡◌, ◌+◌, ◌<◌, pos, ◌+ℤ◌, MatchOption};
+ghost use Rattle.std.specs.Prelude.{◌≡◌, ◌+◌, ◌<◌, pos, ◌+ℤ◌};
 ghost use Rattle.numbers.specs.Products.{summand_units};
-ghost use Rattle.readings.specs.Limbs.{natural};
 ghost use Rattle.readings.specs.Sums.{accumulated, sum_value, Adds};
 
-use crate::limbs::{add_shifted, no_limbs, subtract};
+use crate::limbs::Natural;
 use crate::sums::{Accumulator, ExactSum};
 use condensers::condenser::Condenser;
 use numbers::piece::Summand;
 use numbers::refusal::{Reason, Refusal};
-
-/// The first size less the second, or none where the second is larger.
-fn difference(first: &[u64; 33], second: &[u64; 33]) -> Option<[u64; 33]>
-    ensures value { MatchOption result (natural first.now < natural second.now) (λ rest. natural rest + natural second.now ≡ natural first.now) }
-{
-    let mut rest = *first;
-    match subtract(&mut rest, second) {
-        0 => Some(rest),
-        _ => None,
-    }
-}
 
 impl Accumulator {
     /// The sum of nothing.
@@ -28,8 +16,8 @@ impl Accumulator {
         ensures count { result.taken ≡ 0 }
     {
         Accumulator {
-            above: no_limbs(),
-            below: no_limbs(),
+            above: Natural::zero(),
+            below: Natural::zero(),
             taken: 0,
         }
     }
@@ -54,9 +42,9 @@ impl Accumulator {
         self.taken += 1;
         let shift = summand.rank();
         if summand.negative {
-            add_shifted(&mut self.below, summand.significand, shift);
+            self.below.add_shifted(summand.significand, shift);
         } else {
-            add_shifted(&mut self.above, summand.significand, shift);
+            self.above.add_shifted(summand.significand, shift);
         }
     }
 
@@ -64,14 +52,14 @@ impl Accumulator {
     pub fn sum(&self) -> ExactSum
         ensures value { sum_value result ≡ accumulated self.now }
     {
-        match difference(&self.above, &self.below) {
+        match self.above.checked_sub(&self.below) {
             Some(size) => ExactSum {
                 negative: false,
                 size,
             },
             None => ExactSum {
                 negative: true,
-                size: difference(&self.below, &self.above).unwrap(),
+                size: self.below.checked_sub(&self.above).unwrap(),
             },
         }
     }

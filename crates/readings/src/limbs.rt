@@ -1,22 +1,116 @@
-//! Natural numbers as slices of 64-bit limbs, the lowest limb first.
-ghost use Rattle.std.specs.Prelude.{◌≡◌, ◌+◌, ◌*◌, ◌/◌, ◌%◌, ◌^◌, ◌<◌, ◌≤◌, length, nat_lt, slice_index};
+//! Natural numbers in limbs of 64 bits, the lowest limb first.
+ghost use Rattle.std.specs.Prelude.{◌≡◌, ◌+◌, ◌*◌, ◌/◌, ◌%◌, ◌^◌, ◌<◌, ◌≤◌, length, take, not, ◌==◌, nat_lt, slice_index, MatchOption};
 ghost use Rattle.std.specs.Float.Ieee.{size};
-ghost use Rattle.readings.specs.Limbs.{natural};
+ghost use Rattle.std.specs.List.{list_any};
+ghost use Rattle.readings.specs.Limbs.{natural, AreLimbs};
+
+use std::marker::Model;
 
 /// One more than the largest limb.
 const BASE: u128 = 0x1_0000_0000_0000_0000;
 
-/// The limbs of zero.
-pub(crate) fn no_limbs() -> [u64; 33]
-    ensures value { natural result ≡ 0 }
+/// How many limbs a number has.
+const LIMBS: usize = 33;
+
+/// A natural number below 2^2112.
+#[derive(Clone, Copy)]
+pub struct Natural {
+    limbs: [u64; LIMBS],
+}
+
+impl Model for Natural {
+    ghost use Rattle.std.specs.Prelude.{ℕ};
+    ghost use Rattle.readings.specs.Limbs.{natural, AreLimbs, limbs_of, limbs_of-natural};
+
+    ghost Value = { ℕ };
+
+    ghost view = { λ n. natural n.limbs };
+
+    ghost invariant = { λ n. AreLimbs 33 n.limbs };
+
+    ghost inverse = { λ n. record { limbs = limbs_of 33 n } };
+
+    ghost inverse_ok = { λ n h i. record { limbs = limbs_of-natural 33 n.limbs h i } };
+}
+
+impl Natural {
+    pub(crate) fn zero() -> Natural
+        ensures value { result ≡ 0 }
+    {
+        Natural { limbs: [0; LIMBS] }
+    }
+
+    /// Adds significand × 2^shift, which has room.
+    pub(crate) fn add_shifted(&mut self, significand: u64, shift: u32)
+        requires reach { shift < 2112 }
+        requires room { self.old + significand * 2 ^ shift < 2 ^ 2112 }
+        ensures value { self.new ≡ self.old + significand * 2 ^ shift }
+    {
+        let at = (shift / 64) as usize;
+        let wide = (significand as u128) << (shift % 64);
+        let _ = add_at(&mut self.limbs, at, (wide % BASE) as u64);
+        let _ = add_at(&mut self.limbs, at + 1, (wide / BASE) as u64);
+    }
+
+    /// The number less another, or none where the other is larger.
+    pub(crate) fn checked_sub(&self, other: &Natural) -> Option<Natural>
+        ensures value { MatchOption result (self.now < other.now) (λ rest. rest + other.now ≡ self.now) }
+    {
+        let mut rest = self.limbs;
+        match subtract(&mut rest, &other.limbs) {
+            0 => Some(Natural { limbs: rest }),
+            _ => None,
+        }
+    }
+
+    /// How many bits the number has: none for zero.
+    pub(crate) fn bit_length(&self) -> u32
+        ensures answer { result ≡ size self.now }
+        ensures limits { result ≤ 2112 }
+    {
+        match self.limbs.iter().rposition(|limb| *limb != 0) {
+            Some(top) => 64 * top as u32 + (64 - self.limbs[top].leading_zeros()),
+            None => 0,
+        }
+    }
+
+    /// The 64 bits from the bit `cut` up.
+    pub(crate) fn bits_from(&self, cut: u32) -> u64
+        ensures answer { result ≡ self.now / 2 ^ cut % 2 ^ 64 }
+    {
+        let at = (cut / 64) as usize;
+        let pair = limb(&self.limbs, at + 1) as u128 * BASE + limb(&self.limbs, at) as u128;
+        ((pair >> (cut % 64)) % BASE) as u64
+    }
+
+    /// Whether anything but zero lies below the bit `cut`.
+    pub(crate) fn any_below(&self, cut: u32) -> bool
+        ensures answer { result ≡ nat_lt 0 (self.now % 2 ^ cut) }
+    {
+        let at = (cut / 64) as usize;
+        any_set(&self.limbs, at) || limb(&self.limbs, at) % (1 << (cut % 64)) != 0
+    }
+}
+
+/// The limb at a place, or 0 past the last one.
+fn limb(limbs: &[u64], at: usize) -> u64
+    ensures answer { result ≡ slice_index limbs.now at }
 {
-    [0; 33]
+    limbs.get(at).copied().unwrap_or(0)
+}
+
+/// Whether a limb below a place is not zero.
+fn any_set(limbs: &[u64], at: usize) -> bool
+    ensures answer { result ≡ list_any (λ limb. not (limb == 0)) (take at limbs.now) }
+{
+    limbs.iter().take(at).any(|limb| *limb != 0)
 }
 
 /// Adds `part` at the limb `at`, and the carries above it. The answer is the carry out of the last limb.
-pub(crate) fn add_at(limbs: &mut [u64], at: usize, part: u64) -> u64
+fn add_at(limbs: &mut [u64], at: usize, part: u64) -> u64
     requires { at ≤ length limbs.old }
     ensures value { natural limbs.new + result * 2 ^ (64 * length limbs.old) ≡ natural limbs.old + part * 2 ^ (64 * at) }
+    ensures limbs { AreLimbs (length limbs.old) limbs.new }
 {
     let mut carry = part;
     for i in at..limbs.len() {
@@ -30,22 +124,11 @@ pub(crate) fn add_at(limbs: &mut [u64], at: usize, part: u64) -> u64
     carry
 }
 
-/// Adds significand × 2^shift, which has room.
-pub(crate) fn add_shifted(limbs: &mut [u64], significand: u64, shift: u32)
-    requires reach { shift / 64 < length limbs.old }
-    requires room { natural limbs.old + significand * 2 ^ shift < 2 ^ (64 * length limbs.old) }
-    ensures value { natural limbs.new ≡ natural limbs.old + significand * 2 ^ shift }
-{
-    let at = (shift / 64) as usize;
-    let wide = (significand as u128) << (shift % 64);
-    let _ = add_at(limbs, at, (wide % BASE) as u64);
-    let _ = add_at(limbs, at + 1, (wide / BASE) as u64);
-}
-
 /// Takes `other` away. The answer is the borrow out of the last limb.
-pub(crate) fn subtract(limbs: &mut [u64], other: &[u64]) -> u64
+fn subtract(limbs: &mut [u64], other: &[u64]) -> u64
     requires { length limbs.old ≡ length other.now }
     ensures value { natural limbs.new + natural other.now ≡ natural limbs.old + result * 2 ^ (64 * length limbs.old) }
+    ensures limbs { AreLimbs (length limbs.old) limbs.new }
     ensures limits { natural limbs.new < 2 ^ (64 * length limbs.old) }
 {
     let mut borrow = 0;
@@ -55,47 +138,4 @@ pub(crate) fn subtract(limbs: &mut [u64], other: &[u64]) -> u64
         borrow = 1 - (rest / BASE) as u64;
     }
     borrow
-}
-
-/// How many bits the number has: none for zero.
-pub(crate) fn bit_length(limbs: &[u64]) -> u32
-    requires { length limbs.now ≤ 64 }
-    ensures answer { result ≡ size (natural limbs.now) }
-{
-    let mut bits = 0;
-    for i in 0..limbs.len() {
-        if limbs[i] != 0 {
-            bits = 64 * i as u32 + (64 - limbs[i].leading_zeros());
-        }
-    }
-    bits
-}
-
-/// The limb at a place, or 0 past the last one.
-fn limb(limbs: &[u64], at: usize) -> u64
-    ensures answer { result ≡ slice_index limbs.now at }
-{
-    if at < limbs.len() { limbs[at] } else { 0 }
-}
-
-/// The 64 bits from the bit `cut` up.
-pub(crate) fn bits_from(limbs: &[u64], cut: u32) -> u64
-    ensures answer { result ≡ natural limbs.now / 2 ^ cut % 2 ^ 64 }
-{
-    let at = (cut / 64) as usize;
-    let pair = limb(limbs, at + 1) as u128 * BASE + limb(limbs, at) as u128;
-    ((pair >> (cut % 64)) % BASE) as u64
-}
-
-/// Whether anything but zero lies below the bit `cut`.
-pub(crate) fn any_below(limbs: &[u64], cut: u32) -> bool
-    ensures answer { result ≡ nat_lt 0 (natural limbs.now % 2 ^ cut) }
-{
-    let at = (cut / 64) as usize;
-    for i in 0..at.min(limbs.len()) {
-        if limbs[i] != 0 {
-            return true;
-        }
-    }
-    limb(limbs, at) % (1 << (cut % 64)) != 0
 }

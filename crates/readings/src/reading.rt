@@ -4,14 +4,13 @@ ghost use Rattle.std.specs.Float.{binary32, binary64};
 ghost use Rattle.std.specs.Float.Ieee.{top};
 ghost use Rattle.numbers.specs.Units.{signed};
 ghost use Rattle.readings.specs.Formats.{Encodes, format_of, largest};
-ghost use Rattle.readings.specs.Limbs.{natural};
 ghost use Rattle.readings.specs.Readings.{Reads, ReadsIn};
 ghost use Rattle.readings.specs.Rounding.{Rounds};
 ghost use Rattle.readings.specs.Sums.{sum_value};
 ghost use Rattle.readings.specs.declared.forms.Width.TheVariants.{Short};
 
 use crate::forms::{Direction, Form, Width};
-use crate::limbs::{add_shifted, no_limbs};
+use crate::limbs::Natural;
 use crate::rounding::{size_mode, size_pattern};
 use crate::sums::ExactSum;
 use condensers::condenser::Condenser;
@@ -42,11 +41,11 @@ fn significand_of(pattern: u64) -> (u64, u32)
 fn pattern_sum(pattern: u64) -> ExactSum
     requires { pattern % 2 ^ 63 ≤ 0x47ef_ffff_e000_0000 }
     ensures value { Encodes binary64 pattern (sum_value result) }
-    ensures limits { natural result.size ≤ largest binary32 }
+    ensures limits { result.size ≤ largest binary32 }
 {
     let (significand, shift) = significand_of(pattern);
-    let mut size = no_limbs();
-    add_shifted(&mut size, significand, shift);
+    let mut size = Natural::zero();
+    size.add_shifted(significand, shift);
     ExactSum {
         negative: pattern > SIGN,
         size,
@@ -85,7 +84,7 @@ fn shortened(long: u64, direction: Direction) -> Result<u64, Refusal>
 impl ExactSum {
     /// The pattern of the sum in a width that has room for it.
     fn pattern(&self, width: Width, direction: Direction) -> u64
-        requires { natural self.now.size ≤ largest (format_of width) }
+        requires { self.now.size ≤ largest (format_of width) }
         ensures answer { Rounds (format_of width) direction (sum_value self.now) result }
     {
         let size = size_pattern(&self.size, width, size_mode(direction, self.negative));

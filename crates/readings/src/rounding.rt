@@ -1,12 +1,11 @@
 //! How a size is rounded: the kept digits, what is left below them, and the carry.
-ghost use Rattle.std.specs.Prelude.{◌≡◌, ◌+◌, ◌-◌, ◌*◌, ◌%◌, ◌^◌, ◌<◌, ◌≤◌, length};
+ghost use Rattle.std.specs.Prelude.{◌≡◌, ◌+◌, ◌-◌, ◌*◌, ◌%◌, ◌^◌, ◌<◌, ◌≤◌};
 ghost use Rattle.std.specs.Float.Ieee.{hid};
 ghost use Rattle.readings.specs.Formats.{format_of};
-ghost use Rattle.readings.specs.Limbs.{natural};
 ghost use Rattle.readings.specs.Rounded.{mode_of, remainder_of, tie_carry, carry, size_pattern};
 
 use crate::forms::{Direction, Width};
-use crate::limbs::{any_below, bit_length, bits_from};
+use crate::limbs::Natural;
 
 /// What becomes of a size that is no number of the format.
 #[derive(Clone, Copy)]
@@ -41,14 +40,14 @@ pub(crate) fn size_mode(direction: Direction, negative: bool) -> Mode
 }
 
 /// What is left of the number below the bit `cut`.
-fn left_below(limbs: &[u64], cut: u32) -> Remainder
-    ensures answer { result ≡ remainder_of (natural limbs.now % 2 ^ cut) (2 ^ cut) }
+fn left_below(size: &Natural, cut: u32) -> Remainder
+    ensures answer { result ≡ remainder_of (size.now % 2 ^ cut) (2 ^ cut) }
 {
     if cut == 0 {
         return Remainder::Nothing;
     }
-    let half = bits_from(limbs, cut - 1) % 2 == 1;
-    let rest = any_below(limbs, cut - 1);
+    let half = size.bits_from(cut - 1) % 2 == 1;
+    let rest = size.any_below(cut - 1);
     if half {
         if rest {
             Remainder::AboveHalf
@@ -96,14 +95,13 @@ fn joined(width: Width, dropped: u64, digits: u64) -> u64
 
 /// The pattern of a size, without a sign. The exponent's field counts the dropped digits; the leading digit adds one to it, and so does a carry
 /// out of the digits.
-pub(crate) fn size_pattern(size: &[u64], width: Width, mode: Mode) -> u64
-    requires { length size.now ≤ 33 }
-    ensures answer { result ≡ size_pattern (format_of width) mode (natural size.now) }
+pub(crate) fn size_pattern(size: &Natural, width: Width, mode: Mode) -> u64
+    ensures answer { result ≡ size_pattern (format_of width) mode (size.now) }
 {
     let precision = width.precision();
     let lowest = width.lowest();
-    let dropped = bit_length(size).saturating_sub(lowest + precision);
-    let kept = bits_from(size, lowest + dropped);
+    let dropped = size.bit_length().saturating_sub(lowest + precision);
+    let kept = size.bits_from(lowest + dropped);
     let carry = carry_into(mode, kept, left_below(size, lowest + dropped));
     joined(width, dropped as u64, kept + carry)
 }

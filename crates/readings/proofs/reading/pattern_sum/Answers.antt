@@ -1,22 +1,21 @@
 -- The shifted significand is the size; the sign bit alone is zero's.
-use Rattle.std.proofs.Common.{◌≡◌, ℕ, ◌+◌, ◌*◌, ◌^◌, ◌<◌, ◌≤◌, false, ltb, leb, length, ℤ, sym, ap, ◌∙◌, subst, le_trans, le_of_eq, lt_of_le_of_lt, zero-add, arith}
+use Rattle.std.proofs.Common.{◌≡◌, ℕ, ◌+◌, ◌*◌, ◌^◌, ◌<◌, ◌≤◌, false, ltb, leb, ℤ, sym, ap, ◌∙◌, subst, le_trans, le_of_eq, lt_of_le_of_lt, zero-add, arith}
 use lib.Ieee.{binary32, binary64}
 use Rattle.numbers.specs.Units.{signed}
 use Rattle.readings.specs.Formats.{Encodes, largest}
-use Rattle.readings.specs.Limbs.{natural}
 use Rattle.readings.proofs.Widths.{strict, short-long, short-room}
 use Rattle.readings.proofs.reading.pattern_sum.Goals as goal
 
 -- zero and a size within binary32 have room
-room : (z m len : ℕ) → z ≡ 0 → len ≡ 33 → m ≤ largest binary32 → z + m < 2 ^ (64 * len)
-room z m len e l h = subst (λ (a : ℕ). z + m < 2 ^ (64 * a)) (sym l) (lt_of_le_of_lt (le_trans (le_of_eq (ap (λ (a : ℕ). a + m) e ∙ zero-add m)) h) short-room)
+room : (z m : ℕ) → z ≡ 0 → m ≤ largest binary32 → z + m < 2 ^ 2112
+room z m e h = lt_of_le_of_lt (le_trans (le_of_eq (ap (λ (a : ℕ). a + m) e ∙ zero-add m)) h) short-room
 
 pub add_shifted-requires : goal.add_shifted-requires
 add_shifted-requires c =
     let r = c.significand_of-significand.result in
     record {
       reach = omega (arith, c.significand_of-significand.ensures.limits.0);
-      room = room (natural c.no_limbs-size.result) (r.0 * 2 ^ r.1) (length c.no_limbs-size.result) c.no_limbs-size.ensures.value (omega arith) c.significand_of-significand.ensures.limits.1;
+      room = room c.zero-size.result (r.0 * 2 ^ r.1) c.zero-size.ensures.value c.significand_of-significand.ensures.limits.1;
     }
 
 -- what the limbs hold, of a pattern b and its size m
@@ -31,11 +30,11 @@ held b m n z e l o h =
 pub invariant_of-result : goal.invariant_of-result
 invariant_of-result c =
     let r = c.significand_of-significand.result in
-    let h = held c.args.pattern (r.0 * 2 ^ r.1) (natural c.add_shifted.new.limbs) (natural c.no_limbs-size.result) c.significand_of-significand.ensures.value c.significand_of-significand.ensures.limits.1 c.no_limbs-size.ensures.value c.add_shifted.ensures.value in
+    let h = held c.args.pattern (r.0 * 2 ^ r.1) c.add_shifted.new.self c.zero-size.result c.significand_of-significand.ensures.value c.significand_of-significand.ensures.limits.1 c.zero-size.ensures.value c.add_shifted.ensures.value in
     record { bounded = h.1; plus = h.2 }
 
 pub returns : goal.returns
 returns c =
     let r = c.significand_of-significand.result in
-    let h = held c.args.pattern (r.0 * 2 ^ r.1) (natural c.add_shifted.new.limbs) (natural c.no_limbs-size.result) c.significand_of-significand.ensures.value c.significand_of-significand.ensures.limits.1 c.no_limbs-size.ensures.value c.add_shifted.ensures.value in
+    let h = held c.args.pattern (r.0 * 2 ^ r.1) c.add_shifted.new.self c.zero-size.result c.significand_of-significand.ensures.value c.significand_of-significand.ensures.limits.1 c.zero-size.ensures.value c.add_shifted.ensures.value in
     record { value = h.3; limits = h.0 }

@@ -1,6 +1,5 @@
 -- The bit under the cut is one half of the weight above it; what lies below that bit decides the rest.
 use Rattle.std.proofs.Common.{◌≡◌, ℕ, ◌-◌, ◌/◌, ◌%◌, ◌^◌, sym, ap, ◌∙◌, arith}
-use Rattle.readings.specs.Limbs.{natural}
 use Rattle.readings.proofs.Remainders.{under, above_half, at_half, below_half, nothing, some, none}
 use Rattle.readings.proofs.rounding.left_below.Goals as goal
 
@@ -13,7 +12,7 @@ clear r b e h = let k : r % 2 ≡ 0 = omega arith in sym (ap (λ (a : ℕ). a % 
 
 pub returns-then-rest : goal.returns-then-rest
 returns-then-rest c =
-    let n = natural c.args.limbs.now in
+    let n = c.args.size.now in
     let j = c.args.cut - 1 in
     record {
       answer = above_half n c.args.cut (n / 2 ^ j % 2 ^ 64 % 2) (2 ^ j) (n % 2 ^ j) (under n c.args.cut c.if-cut-eq0.false)
@@ -22,7 +21,7 @@ returns-then-rest c =
 
 pub returns-else-rest : goal.returns-else-rest
 returns-else-rest c =
-    let n = natural c.args.limbs.now in
+    let n = c.args.size.now in
     let j = c.args.cut - 1 in
     record {
       answer = at_half n c.args.cut (n / 2 ^ j % 2 ^ 64 % 2) (2 ^ j) (n % 2 ^ j) (under n c.args.cut c.if-cut-eq0.false)
@@ -31,7 +30,7 @@ returns-else-rest c =
 
 pub returns-then-rest-2 : goal.returns-then-rest-2
 returns-then-rest-2 c =
-    let n = natural c.args.limbs.now in
+    let n = c.args.size.now in
     let j = c.args.cut - 1 in
     record {
       answer = below_half n c.args.cut (n / 2 ^ j % 2 ^ 64 % 2) (2 ^ j) (n % 2 ^ j) (under n c.args.cut c.if-cut-eq0.false)
@@ -40,7 +39,7 @@ returns-then-rest-2 c =
 
 pub returns-else-rest-2 : goal.returns-else-rest-2
 returns-else-rest-2 c =
-    let n = natural c.args.limbs.now in
+    let n = c.args.size.now in
     let j = c.args.cut - 1 in
     record {
       answer = nothing n c.args.cut (n / 2 ^ j % 2 ^ 64 % 2) (2 ^ j) (n % 2 ^ j) (under n c.args.cut c.if-cut-eq0.false)

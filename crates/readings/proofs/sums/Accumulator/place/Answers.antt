@@ -1,7 +1,7 @@
 -- The summand has room on its side, and moves the sum by its value.
-use Rattle.std.proofs.Common.{◌≡◌, ℕ, ◌*◌, ◌^◌, ◌≤◌, Bool, true, false, length, ℤ, pos, ◌+ℤ◌, ◌-ℤ◌, sym, refl, ap, ◌∙◌, subst, arith}
+use Rattle.std.proofs.Common.{◌≡◌, ℕ, ◌*◌, ◌^◌, ◌≤◌, Bool, true, false, ℤ, pos, ◌+ℤ◌, ◌-ℤ◌, sym, refl, ap, ◌∙◌, subst, arith}
 use Rattle.numbers.specs.Units.{rank, signed, units}
-use Rattle.readings.specs.Limbs.{natural, summand_limit}
+use Rattle.readings.specs.Limbs.{summand_limit}
 use Rattle.readings.proofs.Bounds.{room, above_more, below_more}
 use Rattle.readings.proofs.sums.Accumulator.place.Goals as goal
 
@@ -15,7 +15,7 @@ add_shifted-requires c =
     let s = c.args.summand in
     record {
       reach = omega arith;
-      room = room (natural a.below) a.taken (s.significand * 2 ^ c.rank-shift.result) (length a.below) (omega arith) c.requires a.below_bounded
+      room = room a.below a.taken (s.significand * 2 ^ c.rank-shift.result) c.requires a.below_bounded
           (size s.significand c.rank-shift.result (rank s.exponent) c.rank-shift.ensures.answer s.bounded);
     }
 
@@ -25,7 +25,7 @@ add_shifted-requires-else-summand c =
     let s = c.args.summand in
     record {
       reach = omega arith;
-      room = room (natural a.above) a.taken (s.significand * 2 ^ c.rank-shift.result) (length a.above) (omega arith) c.requires a.above_bounded
+      room = room a.above a.taken (s.significand * 2 ^ c.rank-shift.result) c.requires a.above_bounded
           (size s.significand c.rank-shift.result (rank s.exponent) c.rank-shift.ensures.answer s.bounded);
     }
 
@@ -41,8 +41,8 @@ returns-then-summand c =
     record {
       count = refl;
       value =
-          below_more (natural a.above) (natural a.below) (natural c.add_shifted.new.limbs) v c.add_shifted.ensures.value
-          ∙ ap (λ (x : ℤ). (pos (natural a.above) -ℤ pos (natural a.below)) +ℤ x) (sym (value true s.negative s.significand c.rank-shift.result s.exponent c.if-summand.true c.rank-shift.ensures.answer));
+          below_more a.above a.below c.add_shifted.new.self v c.add_shifted.ensures.value
+          ∙ ap (λ (x : ℤ). (pos a.above -ℤ pos a.below) +ℤ x) (sym (value true s.negative s.significand c.rank-shift.result s.exponent c.if-summand.true c.rank-shift.ensures.answer));
     }
 
 pub returns-else-summand : goal.returns-else-summand
@@ -53,6 +53,6 @@ returns-else-summand c =
     record {
       count = refl;
       value =
-          above_more (natural a.above) (natural c.add_shifted-else-summand.new.limbs) (natural a.below) v c.add_shifted-else-summand.ensures.value
-          ∙ ap (λ (x : ℤ). (pos (natural a.above) -ℤ pos (natural a.below)) +ℤ x) (sym (value false s.negative s.significand c.rank-shift.result s.exponent c.if-summand.false c.rank-shift.ensures.answer));
+          above_more a.above c.add_shifted-else-summand.new.self a.below v c.add_shifted-else-summand.ensures.value
+          ∙ ap (λ (x : ℤ). (pos a.above -ℤ pos a.below) +ℤ x) (sym (value false s.negative s.significand c.rank-shift.result s.exponent c.if-summand.false c.rank-shift.ensures.answer));
     }

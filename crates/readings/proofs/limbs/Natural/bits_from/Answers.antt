@@ -1,14 +1,16 @@
 -- Two limbs hold the 64 bits.
 use Rattle.std.proofs.Common.{ℕ, ◌+◌, ◌*◌, ◌/◌, ◌%◌, ◌^◌, get_or, ap, ◌∙◌}
 use Rattle.readings.proofs.Naturals.{read_bits}
-use Rattle.readings.proofs.limbs.bits_from.Goals as goal
+use Rattle.readings.proofs.limbs.Natural.bits_from.Goals as goal
 
 pub returns : goal.returns
 returns c =
     let o = c.args.cut % 64 in
+    let xs = c.self.inside.limbs in
     record {
       answer =
           ap (λ (a : ℕ). (a * 2 ^ 64 + c.limb-2.result) / 2 ^ o % 2 ^ 64) c.limb.ensures.answer
-          ∙ ap (λ (a : ℕ). (get_or c.args.limbs.now (c.args.cut / 64 + 1) 0 * 2 ^ 64 + a) / 2 ^ o % 2 ^ 64) c.limb-2.ensures.answer
-          ∙ read_bits c.args.limbs.now c.args.cut (λ i. (c.type_inv.limbs i).fits);
+          ∙ ap (λ (a : ℕ). (get_or xs (c.args.cut / 64 + 1) 0 * 2 ^ 64 + a) / 2 ^ o % 2 ^ 64) c.limb-2.ensures.answer
+          ∙ read_bits xs c.args.cut c.self.invariant.1
+          ∙ ap (λ (a : ℕ). a / 2 ^ c.args.cut % 2 ^ 64) c.self.view_is;
     }
