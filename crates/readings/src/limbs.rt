@@ -14,23 +14,24 @@ const LIMBS: usize = 33;
 
 /// A natural number below 2^2112.
 #[derive(Clone, Copy)]
-pub struct Natural {
+pub(crate) struct Natural {
     limbs: [u64; LIMBS],
 }
 
 impl Model for Natural {
     ghost use Rattle.std.specs.Prelude.{ℕ};
     ghost use Rattle.readings.specs.Limbs.{natural, AreLimbs, limbs_of, limbs_of-natural};
+    ghost use Rattle.readings.specs.declared.limbs.TheConstants.{LIMBS};
 
     ghost Value = { ℕ };
 
     ghost view = { λ n. natural n.limbs };
 
-    ghost invariant = { λ n. AreLimbs 33 n.limbs };
+    ghost invariant = { λ n. AreLimbs LIMBS n.limbs };
 
-    ghost inverse = { λ n. record { limbs = limbs_of 33 n } };
+    ghost inverse = { λ n. record { limbs = limbs_of LIMBS n } };
 
-    ghost inverse_ok = { λ n h i. record { limbs = limbs_of-natural 33 n.limbs h i } };
+    ghost inverse_ok = { λ n h i. record { limbs = limbs_of-natural LIMBS n.limbs h i } };
 }
 
 impl Natural {
@@ -42,8 +43,8 @@ impl Natural {
 
     /// Adds significand × 2^shift, which has room.
     pub(crate) fn add_shifted(&mut self, significand: u64, shift: u32)
-        requires reach { shift < 2112 }
-        requires room { self.old + significand * 2 ^ shift < 2 ^ 2112 }
+        requires reach { shift < 64 * LIMBS }
+        requires room { self.old + significand * 2 ^ shift < 2 ^ (64 * LIMBS) }
         ensures value { self.new ≡ self.old + significand * 2 ^ shift }
     {
         let at = (shift / 64) as usize;
@@ -66,7 +67,7 @@ impl Natural {
     /// How many bits the number has: none for zero.
     pub(crate) fn bit_length(&self) -> u32
         ensures answer { result ≡ size self.now }
-        ensures limits { result ≤ 2112 }
+        ensures limits { result ≤ 64 * LIMBS }
     {
         match self.limbs.iter().rposition(|limb| *limb != 0) {
             Some(top) => 64 * top as u32 + (64 - self.limbs[top].leading_zeros()),
