@@ -1,14 +1,15 @@
 -- Numbers written in limbs of 64 bits: one limb changed, the lowest limbs, a limb read back. Assumes nothing.
-use Rattle.std.proofs.Common.{◌≡◌, ℕ, Bool, not, ◌||◌, ltb, lt→ltb, zero, suc, ◌+◌, ◌-◌, ◌*◌, ◌/◌, ◌%◌, ◌^◌, ◌<◌, ◌≤◌, ◌≢◌, List, [], ◌∷◌, length, get_or, take, drop, set, sym, refl, ap, ◌∙◌, subst, le_trans, le_of_eq, le_refl, le_of_suc-le-suc, not-suc-le-zero, add-zero, add-suc, mul-le-mul_right, zero-lt-suc, mul_assoc, suc-mul, mul_comm, add-mul, add-sub_of_le, add_comm, le_antisymm, lt_of_not-le, zero-mul, not-le_of_lt, mul_left_comm, le-add_left, add-one, arith, pow_pos, pow_mono, pow-add, shl_exact, shr-shr}
+use Rattle.std.proofs.Common.{◌≡◌, ◌++◌, append-nil, length-take-le, ℕ, Bool, not, ◌||◌, ltb, lt→ltb, zero, suc, ◌+◌, ◌-◌, ◌*◌, ◌/◌, ◌%◌, ◌^◌, ◌<◌, ◌≤◌, ◌≢◌, List, [], ◌∷◌, length, get_or, take, drop, set, sym, refl, ap, ◌∙◌, subst, le_trans, le_of_eq, le_refl, le_of_suc-le-suc, not-suc-le-zero, add-zero, add-suc, mul-le-mul_right, zero-lt-suc, mul_assoc, suc-mul, mul_comm, add-mul, add-sub_of_le, add_comm, le_antisymm, lt_of_not-le, zero-mul, not-le_of_lt, mul_left_comm, le-add_left, add-one, arith, pow_pos, pow_mono, pow-add, shl_exact, shr-shr}
 use native.Mathlib.Nat.{mul-add-mod_self_left}
 use lib.Arith.{digits_div, digits_mod, digits_lt}
 use lib.Pow.{field, mod-pow-add}
+use borrow.Rule.Slice.PartMut.{put_mid, mid_of, post_of}
 use lib.Count.{count_leading_zeros, leading_top}
 use lib.Dec.{eqb-suc-zero}
 use lib.Ieee.{size}
 use lib.Ieee.Bits.{is_true}
 use lib.Ieee.Digits.{size-lt, size-le}
-use Rattle.std.proofs.lemmas.List.{take_all}
+use Rattle.std.proofs.lemmas.List.{drop_all, length-drop, take_all}
 use Rattle.std.specs.List.{list_any}
 use Rattle.std.specs.Prelude.{◌==◌, EachIndex}
 use Rattle.readings.specs.Limbs.{natural}
@@ -79,16 +80,12 @@ add_turn xs i c t h inv =
     ap (λ (a : ℕ). natural (set xs i (s % 2 ^ 64)) + s / 2 ^ 64 * a) (ap (λ (a : ℕ). 2 ^ (64 * a)) (add-one i) ∙ weight_more i)
     ∙ carry_step (natural xs) (natural (set xs i (s % 2 ^ 64))) (2 ^ (64 * i)) l (s % 2 ^ 64) c (s / 2 ^ 64) t (omega arith) (natural-set xs i (s % 2 ^ 64) h) inv
 
-pub subtract_turn : (xs ys : List ℕ) (i b t : ℕ) → i < length xs → i < length ys → b ≤ 1 → get_or xs i 0 < 2 ^ 64 → get_or ys i 0 < 2 ^ 64
-    → natural xs + natural (take i ys) ≡ t + b * 2 ^ (64 * i)
-    → natural (set xs i ((2 ^ 64 + get_or xs i 0 - get_or ys i 0 - b) % 2 ^ 64)) + natural (take (i + 1) ys) ≡ t + (1 - (2 ^ 64 + get_or xs i 0 - get_or ys i 0 - b) / 2 ^ 64) * 2 ^ (64 * (i + 1))
-subtract_turn xs ys i b t h k B X Y inv =
-    let l = get_or xs i 0 in
-    let o = get_or ys i 0 in
-    let s = 2 ^ 64 + l - o - b in
-    borrow_step (natural xs) (natural (set xs i (s % 2 ^ 64))) (natural (take i ys)) (natural (take (i + 1) ys)) (2 ^ (64 * i)) l (s % 2 ^ 64) o b (1 - s / 2 ^ 64) t
-    (omega arith) (natural-set xs i (s % 2 ^ 64) h) (ap (λ (a : ℕ). natural (take a ys)) (add-one i) ∙ natural_more ys i k) inv
-    ∙ ap (λ (a : ℕ). t + (1 - s / 2 ^ 64) * a) (sym (ap (λ (a : ℕ). 2 ^ (64 * a)) (add-one i) ∙ weight_more i))
+pub subtract_turn : (xs ys : List ℕ) (i v b b' t : ℕ) → i < length xs → i < length ys → v + get_or ys i 0 + b ≡ get_or xs i 0 + b' * 2 ^ 64
+    → natural xs + natural (take i ys) ≡ t + b * 2 ^ (64 * i) → natural (set xs i v) + natural (take (i + 1) ys) ≡ t + b' * 2 ^ (64 * (i + 1))
+subtract_turn xs ys i v b b' t h k e inv =
+    borrow_step (natural xs) (natural (set xs i v)) (natural (take i ys)) (natural (take (i + 1) ys)) (2 ^ (64 * i)) (get_or xs i 0) v (get_or ys i 0) b b' t
+    (sym e) (natural-set xs i v h) (ap (λ (a : ℕ). natural (take a ys)) (add-one i) ∙ natural_more ys i k) inv
+    ∙ ap (λ (a : ℕ). t + b' * a) (sym (ap (λ (a : ℕ). 2 ^ (64 * a)) (add-one i) ∙ weight_more i))
 
 -- ---- the limbs below a place and those from it up
 
@@ -255,36 +252,46 @@ no_bits xs h = sym (ap size (all-zero xs h))
 
 -- ---- a number that is added at any bit
 
--- the two halves of a number of 128 bits, at their weights
-halves : (d w : ℕ) → d % 2 ^ 64 * w + d / 2 ^ 64 * (2 ^ 64 * w) ≡ d * w
-halves d w =
-    let e : d ≡ d / 2 ^ 64 * 2 ^ 64 + d % 2 ^ 64 = omega arith in
-    let e1 : d * w ≡ (d / 2 ^ 64 * 2 ^ 64) * w + d % 2 ^ 64 * w = ap (λ (a : ℕ). a * w) e ∙ add-mul (d / 2 ^ 64 * 2 ^ 64) (d % 2 ^ 64) w in
-    let e2 : (d / 2 ^ 64 * 2 ^ 64) * w ≡ d / 2 ^ 64 * (2 ^ 64 * w) = mul_assoc (d / 2 ^ 64) (2 ^ 64) w in
+natural-append : (xs ys : List ℕ) → natural (xs ++ ys) ≡ natural xs + natural ys * 2 ^ (64 * length xs)
+unfolding natural
+natural-append [] ys = omega arith
+natural-append (x ∷ xs) ys =
+    let ih = natural-append xs ys in
+    let e = raised (natural ys) (length xs) in
     omega arith
 
--- a carry out of what has room is none
-no_carry : (n₀ n₁ n₂ r₁ r₂ v₁ v₂ v w : ℕ) → n₁ + r₁ * w ≡ n₀ + v₁ → n₂ + r₂ * w ≡ n₁ + v₂ → v₁ + v₂ ≡ v → n₀ + v < w → n₂ ≡ n₀ + v
-no_carry n₀ n₁ n₂ r₁ r₂ v₁ v₂ v w a b e h = go r₁ r₂ a b
-  where
-    go : (r₁ r₂ : ℕ) → n₁ + r₁ * w ≡ n₀ + v₁ → n₂ + r₂ * w ≡ n₁ + v₂ → n₂ ≡ n₀ + v
-    go zero zero a b = let z = zero-mul w in omega arith
-    go (suc p) q a b = let m = suc-mul p w in absurd (omega arith)
-    go zero (suc q) a b = let z = zero-mul w in let m = suc-mul q w in absurd (omega arith)
+-- the limbs from a place up are written anew
+put_above : (xs ys : List ℕ) (i k : ℕ) → i + k ≡ length xs → natural (put_mid i k xs ys) ≡ natural ys * 2 ^ (64 * i) + natural (take i xs)
+put_above xs ys i k e =
+    natural-append (take i xs) (ys ++ post_of i k xs)
+    ∙ ap (λ (a : ℕ). natural (take i xs) + natural (ys ++ post_of i k xs) * 2 ^ (64 * a)) (length-take-le i xs (omega (arith, e)))
+    ∙ ap (λ (l : List ℕ). natural (take i xs) + natural (ys ++ l) * 2 ^ (64 * i)) (drop_all k (drop i xs) (le_of_eq (length-drop i xs ∙ omega (arith, e))))
+    ∙ ap (λ (l : List ℕ). natural (take i xs) + natural l * 2 ^ (64 * i)) (append-nil ys)
+    ∙ add_comm (natural (take i xs)) (natural ys * 2 ^ (64 * i))
 
-pub placed : (n₀ n₁ n₂ r₁ r₂ s shift len : ℕ) → s < 2 ^ 64
-    → n₁ + r₁ * 2 ^ (64 * len) ≡ n₀ + s * 2 ^ (shift % 64) % 2 ^ 128 % 2 ^ 64 * 2 ^ (64 * (shift / 64))
-    → n₂ + r₂ * 2 ^ (64 * len) ≡ n₁ + s * 2 ^ (shift % 64) % 2 ^ 128 / 2 ^ 64 * 2 ^ (64 * (shift / 64 + 1))
-    → n₀ + s * 2 ^ shift < 2 ^ (64 * len) → n₂ ≡ n₀ + s * 2 ^ shift
-placed n₀ n₁ n₂ r₁ r₂ s shift len S a b h =
+-- a carry out of what has room is none
+no_carry : (n r w m : ℕ) → n + r * w ≡ m → m < w → n ≡ m
+no_carry n zero w m e h = let z = zero-mul w in omega arith
+no_carry n (suc r) w m e h = let z = suc-mul r w in absurd (omega arith)
+
+pub placed : (xs ys : List ℕ) (i k r s shift : ℕ) → i ≡ shift / 64 → i + k ≡ length xs → s < 2 ^ 64
+    → natural ys + r * 2 ^ (64 * length (mid_of i k xs)) ≡ natural (mid_of i k xs) + s * 2 ^ (shift % 64) % 2 ^ 128
+    → natural xs + s * 2 ^ shift < 2 ^ (64 * length xs) → natural (put_mid i k xs ys) ≡ natural xs + s * 2 ^ shift
+placed xs ys i k r s shift at e S sum room =
     let o = shift % 64 in
-    let i = shift / 64 in
     let w = 2 ^ (64 * i) in
     let O : 64 + o ≤ 128 = omega arith in
-    let d : s * 2 ^ o % 2 ^ 128 ≡ s * 2 ^ o = shl_exact 64 o 128 S O in
-    let i' : 2 ^ (64 * (i + 1)) ≡ 2 ^ 64 * w = ap (λ (x : ℕ). 2 ^ (64 * x)) (add-one i) ∙ weight_more i in
-    let e : o + 64 * i ≡ shift = omega arith in
-    let v : s * 2 ^ o * w ≡ s * 2 ^ shift = mul_assoc s (2 ^ o) w ∙ ap (λ (x : ℕ). s * x) (sym (pow-add 2 o (64 * i)) ∙ ap (λ (x : ℕ). 2 ^ x) e) in
-    let b' : n₂ + r₂ * 2 ^ (64 * len) ≡ n₁ + s * 2 ^ o % 2 ^ 128 / 2 ^ 64 * (2 ^ 64 * w) = b ∙ ap (λ (x : ℕ). n₁ + s * 2 ^ o % 2 ^ 128 / 2 ^ 64 * x) i' in
-    no_carry n₀ n₁ n₂ r₁ r₂ (s * 2 ^ o % 2 ^ 128 % 2 ^ 64 * w) (s * 2 ^ o % 2 ^ 128 / 2 ^ 64 * (2 ^ 64 * w)) (s * 2 ^ shift) (2 ^ (64 * len)) a b'
-    (halves (s * 2 ^ o % 2 ^ 128) w ∙ ap (λ (x : ℕ). x * w) d ∙ v) h
+    let l : length (drop i xs) ≡ k = length-drop i xs ∙ omega arith in
+    let mid : mid_of i k xs ≡ drop i xs = take_all k (drop i xs) (le_of_eq l) in
+    let h : natural ys + r * 2 ^ (64 * k) ≡ natural (drop i xs) + s * 2 ^ o =
+    ap (λ (a : ℕ). natural ys + r * 2 ^ (64 * a)) (sym (ap length mid ∙ l)) ∙ sum ∙ ap (λ (a : List ℕ). natural a + s * 2 ^ o % 2 ^ 128) mid ∙ ap (λ (a : ℕ). natural (drop i xs) + a) (shl_exact 64 o 128 S O) in
+    let e1 : (natural ys + r * 2 ^ (64 * k)) * w ≡ (natural (drop i xs) + s * 2 ^ o) * w = ap (λ (a : ℕ). a * w) h in
+    let e2 = add-mul (natural ys) (r * 2 ^ (64 * k)) w in
+    let e3 = add-mul (natural (drop i xs)) (s * 2 ^ o) w in
+    let whole : 64 * k + 64 * i ≡ 64 * length xs = omega arith in
+    let part : o + 64 * i ≡ shift = omega arith in
+    let e4 : r * 2 ^ (64 * k) * w ≡ r * 2 ^ (64 * length xs) = mul_assoc r (2 ^ (64 * k)) w ∙ ap (λ (a : ℕ). r * a) (sym (pow-add 2 (64 * k) (64 * i)) ∙ ap (λ (a : ℕ). 2 ^ a) whole) in
+    let e5 : s * 2 ^ o * w ≡ s * 2 ^ shift = mul_assoc s (2 ^ o) w ∙ ap (λ (a : ℕ). s * a) (sym (pow-add 2 o (64 * i)) ∙ ap (λ (a : ℕ). 2 ^ a) part) in
+    let e6 = put_above xs ys i k e in
+    let e7 = natural_split xs i in
+    no_carry (natural (put_mid i k xs ys)) r (2 ^ (64 * length xs)) (natural xs + s * 2 ^ shift) (omega arith) room

@@ -1,6 +1,7 @@
 //! Natural numbers in limbs of 64 bits, the lowest limb first.
 ghost use Rattle.std.specs.Prelude.{◌≡◌, ◌+◌, ◌*◌, ◌/◌, ◌%◌, ◌^◌, ◌<◌, ◌≤◌, length, take, not, ◌==◌, nat_lt, slice_index, MatchOption};
 ghost use Rattle.std.specs.Float.Ieee.{size};
+ghost use Rattle.std.specs.Int.{from_bool};
 ghost use Rattle.std.specs.List.{list_any};
 ghost use Rattle.readings.specs.Limbs.{natural, AreLimbs};
 
@@ -48,9 +49,7 @@ impl Natural {
         ensures value { self.new ≡ self.old + significand * 2 ^ shift }
     {
         let at = (shift / 64) as usize;
-        let wide = (significand as u128) << (shift % 64);
-        let _ = add_at(&mut self.limbs, at, (wide % BASE) as u64);
-        let _ = add_at(&mut self.limbs, at + 1, (wide / BASE) as u64);
+        let _ = add(&mut self.limbs[at..], (significand as u128) << (shift % 64));
     }
 
     /// The number less another, or none where the other is larger.
@@ -58,10 +57,10 @@ impl Natural {
         ensures value { MatchOption result (self.now < other.now) (λ rest. rest + other.now ≡ self.now) }
     {
         let mut rest = self.limbs;
-        match subtract(&mut rest, &other.limbs) {
-            0 => Some(Natural { limbs: rest }),
-            _ => None,
+        if subtract(&mut rest, &other.limbs) {
+            return None;
         }
+        Some(Natural { limbs: rest })
     }
 
     /// How many bits the number has: none for zero.
@@ -107,36 +106,35 @@ fn any_set(limbs: &[u64], at: usize) -> bool
     limbs.iter().take(at).any(|limb| *limb != 0)
 }
 
-/// Adds `part` at the limb `at`, and the carries above it. The answer is the carry out of the last limb.
-fn add_at(limbs: &mut [u64], at: usize, part: u64) -> u64
-    requires { at ≤ length limbs.old }
-    ensures value { natural limbs.new + result * 2 ^ (64 * length limbs.old) ≡ natural limbs.old + part * 2 ^ (64 * at) }
+/// Adds a part. The answer is the carry out of the last limb.
+fn add(limbs: &mut [u64], part: u128) -> u128
+    requires { part < 2 ^ 127 }
+    ensures value { natural limbs.new + result * 2 ^ (64 * length limbs.old) ≡ natural limbs.old + part }
     ensures limbs { AreLimbs (length limbs.old) limbs.new }
 {
     let mut carry = part;
-    for i in at..limbs.len() {
+    for limb in limbs.iter_mut() {
         if carry == 0 {
             return 0;
         }
-        let sum = limbs[i] as u128 + carry as u128;
-        limbs[i] = (sum % BASE) as u64;
-        carry = (sum / BASE) as u64;
+        let sum = *limb as u128 + carry;
+        *limb = (sum % BASE) as u64;
+        carry = sum / BASE;
     }
     carry
 }
 
-/// Takes `other` away. The answer is the borrow out of the last limb.
-fn subtract(limbs: &mut [u64], other: &[u64]) -> u64
+/// Takes `other` away. The answer is whether it borrows from beyond the last limb.
+fn subtract(limbs: &mut [u64], other: &[u64]) -> bool
     requires { length limbs.old ≡ length other.now }
-    ensures value { natural limbs.new + natural other.now ≡ natural limbs.old + result * 2 ^ (64 * length limbs.old) }
+    ensures value { natural limbs.new + natural other.now ≡ natural limbs.old + from_bool result * 2 ^ (64 * length limbs.old) }
     ensures limbs { AreLimbs (length limbs.old) limbs.new }
     ensures limits { natural limbs.new < 2 ^ (64 * length limbs.old) }
 {
-    let mut borrow = 0;
+    let mut borrow = false;
+    // an index loop: two slices go in step, and one is written
     for i in 0..limbs.len() {
-        let rest = BASE + limbs[i] as u128 - other[i] as u128 - borrow as u128;
-        limbs[i] = (rest % BASE) as u64;
-        borrow = 1 - (rest / BASE) as u64;
+        (limbs[i], borrow) = limbs[i].borrowing_sub(other[i], borrow);
     }
     borrow
 }
