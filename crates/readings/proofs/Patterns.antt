@@ -1,5 +1,5 @@
 -- The value of a pattern by its sign and its place in the grid, from the toolchain's own definition of the format. Assumes nothing.
-use Rattle.std.proofs.Common.{◌≡◌, ℕ, zero, suc, ◌+◌, ◌-◌, ◌*◌, ◌/◌, ◌%◌, ◌^◌, ◌<◌, ◌≤◌, Bool, true, false, cond, not, T, eqb, leb, ◌⊎◌, ℤ, pos, negsuc, Some, None, Option, sym, refl, ap, ◌∙◌, subst, inl, inr, le_trans, le_of_eq, lt_of_lt_of_le, le_of_suc-le-suc, le-add_right, mul-le-mul_right, mod-eq_of_lt, zero-lt-suc, mul_assoc, mul_comm, div-lt_iff_lt-mul, add-sub_of_le, le_antisymm, mul-pos, le-div_iff_mul-le, zero-add, zero-mul, mul-one, arith, lit≤, le→leb, eqb→eq, leb→le, pow_pos, pow-add}
+use Rattle.std.proofs.Common.{◌≡◌, ℕ, zero, suc, ◌+◌, ◌-◌, ◌*◌, ◌/◌, ◌%◌, ◌^◌, ◌<◌, ◌≤◌, Bool, true, false, cond, not, T, eqb, leb, ◌⊎◌, ℤ, pos, negsuc, Some, None, Option, sym, refl, ap, ◌∙◌, subst, inl, inr, le_trans, le_of_eq, lt_of_lt_of_le, le_of_suc-le-suc, le-add_right, mul-le-mul_right, mod-eq_of_lt, mul_assoc, mul_comm, div-lt_iff_lt-mul, add-sub_of_le, le_antisymm, le-div_iff_mul-le, zero-add, zero-mul, mul-one, arith, lit≤, le→leb, eqb→eq, leb→le, pow_pos, pow-add}
 use native.Mathlib.Nat.{add-mod_left, mod-mod_of_dvd, dvd-mul_right, eq_of_mul-eq-mul_right}
 use lib.Dec.{nleb→lt}
 use lib.Arith.{lt→nleb}
@@ -97,9 +97,6 @@ split f b h = go (leb (top f) b) refl (leb→le (top f) b) (nleb→lt (top f) b)
         less : (b t : ℕ) → t ≤ b → b < 2 * t → b - t < t
         less b t g h = omega arith
     go false e y n = record { sign = false; place = b; is = sym (zero-add b); test = e; below = n tt }
-
-top_pos : (f : Format) → 0 < top f
-top_pos f = mul-pos (hid_pos f) (zero-lt-suc (ones f))
 
 pub sign_of : (f : Format) (s : Bool) (p : ℕ) → p < top f → leb (top f) (cond s (top f) 0 + p) ≡ s
 sign_of f true p h = is_true (leb (top f) (top f + p)) (le→leb (top f) (top f + p) (le-add_right (top f) p))

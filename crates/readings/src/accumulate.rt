@@ -4,7 +4,7 @@ ghost use Rattle.numbers.specs.Products.{summand_units};
 ghost use Rattle.readings.specs.Sums.{accumulated, sum_value, Adds};
 
 use crate::limbs::Natural;
-use crate::sums::{Accumulator, ExactSum};
+use crate::sums::{Accumulator, CAPACITY, ExactSum};
 use condensers::condenser::Condenser;
 use numbers::piece::Summand;
 use numbers::refusal::{Reason, Refusal};
@@ -26,7 +26,7 @@ impl Accumulator {
     pub fn add(&mut self, summand: Summand) -> Result<(), Refusal>
         ensures after { Adds self.old summand self.new result }
     {
-        if self.taken >= 65536 {
+        if self.taken >= CAPACITY {
             return Err(Refusal::at(Reason::Full, 0));
         }
         self.place(summand);
@@ -35,7 +35,7 @@ impl Accumulator {
 
     /// Adds a summand, which has room.
     fn place(&mut self, summand: Summand)
-        requires { self.old.taken < 65536 }
+        requires { self.old.taken < CAPACITY }
         ensures count { self.new.taken ≡ self.old.taken + 1 }
         ensures value { accumulated self.new ≡ accumulated self.old +ℤ summand_units summand }
     {
@@ -70,6 +70,7 @@ fn gathered<C: Condenser>(condenser: &C) -> Accumulator
     ensures value { accumulated result ≡ C.Condenser.total condenser.now }
 {
     let mut sum = Accumulator::new();
+    // an index loop: a condenser hands its summands out by number
     for k in 0..condenser.summand_count() {
         let summand = condenser.summand(k);
         if summand.significand != 0 {

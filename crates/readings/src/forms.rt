@@ -3,6 +3,12 @@ ghost use Rattle.std.specs.Prelude.{◌≡◌, ◌^◌, ◌≤◌};
 ghost use Rattle.std.specs.Float.Ieee.{hid, prec, top};
 ghost use Rattle.readings.specs.Formats.{format_of, lowest};
 
+/// The leading digit of a binary64 number that has one.
+pub(crate) const LONG_LEADING_DIGIT: u64 = 0x10_0000_0000_0000;
+
+/// The sign bit of a binary64 pattern.
+pub(crate) const LONG_SIGN_BIT: u64 = 0x8000_0000_0000_0000;
+
 /// Where a total goes that is no number of the format.
 #[derive(Clone, Copy, PartialEq, Eq, Debug)]
 pub enum Direction {
@@ -56,7 +62,7 @@ impl Width {
         ensures limits { result ≤ 2 ^ 52 }
     {
         match self {
-            Width::Long => 0x10_0000_0000_0000,
+            Width::Long => LONG_LEADING_DIGIT,
             Width::Short => 0x80_0000,
         }
     }
@@ -66,7 +72,7 @@ impl Width {
         ensures answer { result ≡ top (format_of self) }
     {
         match self {
-            Width::Long => 0x8000_0000_0000_0000,
+            Width::Long => LONG_SIGN_BIT,
             Width::Short => 0x8000_0000,
         }
     }

@@ -36,6 +36,7 @@ impl Model for Natural {
 }
 
 impl Natural {
+    /// The number 0.
     pub(crate) fn zero() -> Natural
         ensures value { result ≡ 0 }
     {

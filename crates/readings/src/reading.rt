@@ -9,37 +9,33 @@ ghost use Rattle.readings.specs.Rounding.{Rounds};
 ghost use Rattle.readings.specs.Sums.{sum_value};
 ghost use Rattle.readings.specs.declared.forms.Width.TheVariants.{Short};
 
-use crate::forms::{Direction, Form, Width};
+use crate::forms::{Direction, Form, LONG_LEADING_DIGIT, LONG_SIGN_BIT, Width};
 use crate::limbs::Natural;
 use crate::rounding::{size_mode, size_pattern};
 use crate::sums::ExactSum;
 use condensers::condenser::Condenser;
 use numbers::refusal::{Reason, Refusal};
 
-/// The sign bit of a binary64 pattern.
-const SIGN: u64 = 0x8000_0000_0000_0000;
-/// The leading digit of a binary64 number that has one.
-const LEAD: u64 = 0x10_0000_0000_0000;
 /// The binary64 pattern of the largest binary32 number.
 const SHORT_LARGEST: u64 = 0x47ef_ffff_e000_0000;
 
 /// The significand of a binary64 pattern, and the power of two that it counts in, where the size is within binary32.
 fn significand_of(pattern: u64) -> (u64, u32)
-    requires { pattern % 2 ^ 63 ≤ 0x47ef_ffff_e000_0000 }
+    requires { pattern % 2 ^ 63 ≤ SHORT_LARGEST }
     ensures value { Encodes binary64 pattern (signed (nat_le (2 ^ 63) pattern) (result.0 * 2 ^ result.1)) }
     ensures limits { (result.1 < 2048) × (result.0 * 2 ^ result.1 ≤ largest binary32) }
 {
-    let digits = pattern % LEAD;
-    let field = pattern % SIGN / LEAD;
+    let digits = pattern % LONG_LEADING_DIGIT;
+    let field = pattern % LONG_SIGN_BIT / LONG_LEADING_DIGIT;
     if field == 0 {
         return (digits, 0);
     }
-    (LEAD + digits, (field - 1) as u32)
+    (LONG_LEADING_DIGIT + digits, (field - 1) as u32)
 }
 
 /// The number that a binary64 pattern stands for, where its size is within binary32.
 fn pattern_sum(pattern: u64) -> ExactSum
-    requires { pattern % 2 ^ 63 ≤ 0x47ef_ffff_e000_0000 }
+    requires { pattern % 2 ^ 63 ≤ SHORT_LARGEST }
     ensures value { Encodes binary64 pattern (sum_value result) }
     ensures limits { result.size ≤ largest binary32 }
 {
@@ -47,7 +43,7 @@ fn pattern_sum(pattern: u64) -> ExactSum
     let mut size = Natural::zero();
     size.add_shifted(significand, shift);
     ExactSum {
-        negative: pattern > SIGN,
+        negative: pattern > LONG_SIGN_BIT,
         size,
     }
 }
@@ -66,9 +62,9 @@ fn with_sign(width: Width, negative: bool, size: u64) -> u64
 
 /// Whether a binary64 pattern is larger in size than every binary32 number.
 fn passes_short(pattern: u64) -> bool
-    ensures answer { result ≡ nat_lt 0x47ef_ffff_e000_0000 (pattern % 2 ^ 63) }
+    ensures answer { result ≡ nat_lt SHORT_LARGEST (pattern % 2 ^ 63) }
 {
-    pattern % SIGN > SHORT_LARGEST
+    pattern % LONG_SIGN_BIT > SHORT_LARGEST
 }
 
 /// A long reading rounded once more, to binary32, in the same direction.

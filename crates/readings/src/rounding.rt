@@ -48,16 +48,11 @@ fn left_below(size: &Natural, cut: u32) -> Remainder
     }
     let half = size.bits_from(cut - 1) % 2 == 1;
     let rest = size.any_below(cut - 1);
-    if half {
-        if rest {
-            Remainder::AboveHalf
-        } else {
-            Remainder::Half
-        }
-    } else if rest {
-        Remainder::BelowHalf
-    } else {
-        Remainder::Nothing
+    match (half, rest) {
+        (true, true) => Remainder::AboveHalf,
+        (true, false) => Remainder::Half,
+        (false, true) => Remainder::BelowHalf,
+        (false, false) => Remainder::Nothing,
     }
 }
 
@@ -78,8 +73,7 @@ fn carry_into(mode: Mode, kept: u64, left: Remainder) -> u64
         (Mode::Cut, _) => 0,
         (Mode::Raise, Remainder::Nothing) => 0,
         (Mode::Raise, _) => 1,
-        (Mode::Near, Remainder::Nothing) => 0,
-        (Mode::Near, Remainder::BelowHalf) => 0,
+        (Mode::Near, Remainder::Nothing | Remainder::BelowHalf) => 0,
         (Mode::Near, Remainder::Half) => tie_carry(kept),
         (Mode::Near, Remainder::AboveHalf) => 1,
     }
@@ -101,7 +95,8 @@ pub(crate) fn size_pattern(size: &Natural, width: Width, mode: Mode) -> u64
     let precision = width.precision();
     let lowest = width.lowest();
     let dropped = size.bit_length().saturating_sub(lowest + precision);
-    let kept = size.bits_from(lowest + dropped);
-    let carry = carry_into(mode, kept, left_below(size, lowest + dropped));
+    let cut = lowest + dropped;
+    let kept = size.bits_from(cut);
+    let carry = carry_into(mode, kept, left_below(size, cut));
     joined(width, dropped as u64, kept + carry)
 }

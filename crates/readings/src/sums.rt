@@ -3,8 +3,12 @@ ghost use Rattle.std.specs.Prelude.{◌≡◌, ◌*◌, ◌≤◌, false};
 ghost use Rattle.std.specs.Float.{binary64};
 ghost use Rattle.readings.specs.Formats.{largest};
 ghost use Rattle.readings.specs.Limbs.{summand_limit};
+ghost use Rattle.readings.specs.declared.sums.TheConstants.{CAPACITY};
 
 use crate::limbs::Natural;
+
+/// How many summands a sum on its way takes.
+pub(crate) const CAPACITY: u32 = 65_536;
 
 /// A sum on its way: the summands above zero, the sizes of those below zero, and how many were taken, 65,536 at most.
 #[derive(Clone, Copy)]
@@ -12,7 +16,7 @@ pub struct Accumulator {
     pub(crate) above: Natural,
     pub(crate) below: Natural,
     pub(crate) taken: u32,
-    ghost few: { taken ≤ 65536 },
+    ghost few: { taken ≤ CAPACITY },
     ghost above_bounded: { above ≤ taken * summand_limit },
     ghost below_bounded: { below ≤ taken * summand_limit },
 }
