@@ -1,8 +1,9 @@
 -- Lines, parted at line feeds, chunk by chunk. Assumes nothing.
-use Rattle.std.proofs.Common.{◌≡◌, ℕ, zero, suc, ◌+◌, ◌-◌, ◌^◌, ◌<◌, ◌≤◌, min, Bool, true, false, cond, eqb, ltb, ◌⊎◌, List, [], ◌∷◌, ◌++◌, length, get_or, take, MatchBool, sym, refl, ap, ◌∙◌, subst, inl, inr, append_assoc, arith, length-append}
+use Rattle.std.proofs.Common.{◌≡◌, ℕ, zero, suc, ◌+◌, ◌-◌, ◌^◌, ◌<◌, ◌≤◌, min, Bool, true, false, cond, not, eqb, ◌⊎◌, ◌↔◌, List, [], ◌∷◌, ◌++◌, length, get_or, take, Ok, Err, Result, IsOk, OnOk, MatchBool, sym, refl, ap, ◌∙◌, subst, inl, inr, append_assoc, arith, length-append}
 use native.Mathlib.Nat.{sub-zero}
 use Rattle.std.proofs.lemmas.List.{take_more, take_all, append-nil, length-take}
-use Rattle.std.proofs.lemmas.Bool.{eqb-true, eq-eqb, ne_eqb, cond-true, cond-false, cases_lt, lt-ltb, both_ways}
+use Rattle.std.proofs.lemmas.Bool.{eqb-true, eq-eqb, ne_eqb, cond-true, cond-false, cases_lt, both_ways}
+use Rattle.arrayvec.specs.ArrayVec.{ArrayVec, array_vec_len}
 use Rattle.sheets.specs.declared.splitter.Splitter.{Splitter}
 use Rattle.sheets.specs.Splitting.{longer, ended, begun, last, feed_at, held, current, yielded, Parting, Took, After}
 
@@ -104,13 +105,10 @@ took_after before after chunk r t past a =
         let was : before.number ≡ length a.earlier + 1 = a.number (omega arith) in
         omega arith
 
--- the line of a splitter is short
-pub held-short : (s : Splitter) → s.len ≤ 40 → length (current s) ≤ 40
-held-short s h = go s.complete
-  where
-    go : (b : Bool) → length (cond b [] (held s)) ≤ 40
-    go true = omega arith
-    go false = simp length-take (omega arith)
+-- bytes for which there is room are put
+pub kept : {A E : Type 0} (before after : ArrayVec ℕ) (more : List ℕ) (r : Result A E) → (IsOk r ↔ (array_vec_len before + length more ≤ 40)) → OnOk r (after.items ≡ before.items ++ more) → length before.items + length more ≤ 40 → after.items ≡ before.items ++ more
+kept before after more (Ok x) room ok h = ok
+kept before after more (Err e) room ok h = absurd (both_ways false refl (room.1 h))
 
 -- the first k bytes of two texts
 pub take_clip : (k : ℕ) (xs ys : List ℕ) → length xs ≤ k → take k (xs ++ ys) ≡ xs ++ take (min (length ys) (k - length xs)) ys
@@ -128,11 +126,9 @@ take_clip (suc k) (x ∷ xs) ys h =
     ap (λ t. x ∷ t) (take_clip k xs ys (omega arith) ∙ ap (λ n. xs ++ take (min (length ys) n) ys) (sym less))
 
 -- a last line counts if it has bytes
-pub last_cases : (t : List ℕ) (n : ℕ) → length t ≡ n → MatchBool (ltb 0 n) (last t ≡ t ∷ []) (last t ≡ [])
-last_cases [] zero e = refl
-last_cases [] (suc n) e = absurd (omega arith)
-last_cases (b ∷ bs) zero e = absurd (omega arith)
-last_cases (b ∷ bs) (suc n) e = rw (lt-ltb 0 (suc n) (omega arith)) refl
+pub last_cases : (t : List ℕ) (empty : Bool) → empty ≡ eqb (length t) 0 → MatchBool (not empty) (last t ≡ t ∷ []) (last t ≡ [])
+last_cases [] empty e = rw e refl
+last_cases (b ∷ bs) empty e = rw (e ∙ ne_eqb (suc (length bs)) 0 (λ h. omega arith)) refl
 
 -- the splitter once a line feed has come
 pub fed_line : (before after : Splitter) (chunk : List ℕ) (at : ℕ) (kept : List ℕ) → at < length chunk → at ≡ feed_at chunk → (ended (current before) (take (feed_at chunk + 1) chunk) ≡ kept ∷ []) × (begun (current before) (take (feed_at chunk + 1) chunk) ≡ []) → held after ≡ kept → after.complete ≡ true → after.number ≡ cond before.complete (min (before.number + 1) (2 ^ 64 - 1)) before.number → Took before chunk (at + 1) after

@@ -1,12 +1,12 @@
 -- Texts that are put together, and what a caller's slice holds once a text was handed to it.
-use Rattle.std.specs.Prelude.{◌≡◌, ℕ, ◌+◌, ◌<◌, ◌≤◌, cond, List, ◌++◌, length, take, drop, Ok, Err, Result, nat_le}
+use Rattle.std.specs.Prelude.{◌≡◌, ℕ, ◌+◌, ◌<◌, ◌≤◌, cond, List, ◌++◌, length, drop, Ok, Err, Result, nat_le}
 use Rattle.numbers.specs.declared.refusal.Refusal.{Refusal}
 use Rattle.numbers.specs.Refusals.{Refused}
 use Rattle.sheets.specs.declared.text.Text.{Text}
 
 -- the bytes put so far
 abbrev pub text_of : Text → List ℕ
-text_of t = take t.len t.bytes
+text_of t = t.bytes.items
 
 -- some bytes more, if there is room for all of them
 unfoldable pub put : List ℕ → List ℕ → List ℕ

@@ -38,7 +38,7 @@ pub record Parting : Type 0 where
 
 -- the line that a splitter holds, and the one that has begun, which is empty behind a line feed
 abbrev pub held : Splitter → List ℕ
-held s = take s.len s.bytes
+held s = s.bytes.items
 
 abbrev pub current : Splitter → List ℕ
 current s = cond s.complete [] (held s)

@@ -1,12 +1,11 @@
 //! Feeding the splitter, and the line that it holds.
-ghost use Rattle.std.specs.Prelude.{◌≡◌, ℕ, ◌+◌, ◌-◌, ◌^◌, min, Bool, true, false, List, [], ◌∷◌, ◌++◌, take, if◌then◌else◌, MatchBool};
+ghost use Rattle.std.specs.Prelude.{◌≡◌, ℕ, ◌+◌, ◌-◌, ◌^◌, ◌≤◌, min, Bool, true, false, List, [], ◌∷◌, ◌++◌, length, take, if◌then◌else◌, MatchBool};
 ghost use Rattle.sheets.specs.Splitting.{feed_at, held, current, last, Parting, Took, After};
 
 use crate::splitter::Splitter;
+use arrayvec::ArrayVec;
 
 const LINE_FEED: u8 = b'\n';
-
-const KEPT: usize = 40;
 
 impl Splitter {
     /// Before the first line.
@@ -14,8 +13,7 @@ impl Splitter {
         ensures after { After [] result }
     {
         Splitter {
-            bytes: [0; 40],
-            len: 0,
+            bytes: ArrayVec::new(),
             number: 1,
             complete: false,
         }
@@ -58,14 +56,14 @@ impl Splitter {
     pub fn line(&self) -> &[u8]
         ensures bytes { result.now ≡ held self.now }
     {
-        &self.bytes[0..self.len]
+        self.bytes.as_slice()
     }
 
     /// Whether the line that it holds has bytes.
     fn has_bytes(&self) -> bool
         ensures answer { MatchBool result (last (held self.now) ≡ held self.now ∷ []) (last (held self.now) ≡ []) }
     {
-        self.len > 0
+        !self.bytes.is_empty()
     }
 
     /// Begins the next line after a complete one, and goes on to the next line feed.
@@ -91,7 +89,7 @@ impl Splitter {
         ensures after { self.new.complete ≡ false }
     {
         if self.complete {
-            self.len = 0;
+            self.bytes.clear();
             self.number = self.number.saturating_add(1);
             self.complete = false;
         }
@@ -100,12 +98,11 @@ impl Splitter {
     /// Puts bytes behind the line, as far as there is room.
     fn keep(&mut self, more: &[u8])
         ensures bytes { held self.new ≡ take 40 (held self.old ++ more.now) }
+        ensures limits { length (held self.old) ≤ 40 }
         ensures unchanged { (self.new.number ≡ self.old.number) × (self.new.complete ≡ self.old.complete) }
     {
-        let at = self.len;
-        let n = more.len().min(KEPT - at);
-        self.bytes[at..at + n].copy_from_slice(&more[0..n]);
-        self.len = at + n;
+        let n = more.len().min(self.bytes.remaining_capacity());
+        let _ = self.bytes.try_extend_from_slice(&more[0..n]);
     }
 }
 

@@ -5,9 +5,9 @@ ghost use Rattle.sheets.specs.Outputs.{text_of, put, Fits, handed};
 
 use crate::digits::digit_byte;
 use crate::text::Text;
+use arrayvec::ArrayVec;
+use itoa::Buffer;
 use numbers::refusal::{Reason, Refusal};
-
-const ROOM: usize = 80;
 
 const MOST_DIGITS: usize = 20;
 
@@ -16,8 +16,7 @@ impl Text {
         ensures bytes { text_of result ≡ [] }
     {
         Text {
-            bytes: [0; 80],
-            len: 0,
+            bytes: ArrayVec::new(),
         }
     }
 
@@ -25,30 +24,21 @@ impl Text {
     pub(crate) fn put_byte(&mut self, byte: u8)
         ensures bytes { text_of self.new ≡ put (text_of self.old) (byte ∷ []) }
     {
-        let at = self.len;
-        if at < ROOM {
-            self.bytes[at] = byte;
-            self.len = at + 1;
-        }
+        self.put_bytes(&[byte]);
     }
 
     /// Puts some bytes behind the text, if it has room for all of them.
     pub(crate) fn put_bytes(&mut self, bytes: &[u8])
         ensures bytes { text_of self.new ≡ put (text_of self.old) bytes.now }
     {
-        if bytes.len() > ROOM - self.len {
-            return;
-        }
-        for byte in bytes {
-            self.put_byte(*byte);
-        }
+        let _ = self.bytes.try_extend_from_slice(bytes);
     }
 
     /// Puts another text behind this one, if there is room for all of it.
     pub(crate) fn put_text(&mut self, text: &Text)
         ensures bytes { text_of self.new ≡ put (text_of self.old) (text_of text.now) }
     {
-        self.put_bytes(&text.bytes[0..text.len]);
+        self.put_bytes(text.bytes.as_slice());
     }
 
     /// Puts the last `count` digits of n, the highest first.
@@ -69,7 +59,7 @@ impl Text {
     pub(crate) fn put_decimal(&mut self, n: u64)
         ensures bytes { text_of self.new ≡ put (text_of self.old) (decimal n) }
     {
-        self.put_digits(n, 10, decimal_len(n));
+        self.put_bytes(Buffer::new().format(n).as_bytes());
     }
 
     /// Hands the text to the front of `out`, if it has room.
@@ -77,25 +67,11 @@ impl Text {
         ensures answer { Fits (text_of self.now) (length out.old) result }
         ensures bytes { out.new ≡ handed (text_of self.now) out.old }
     {
-        let n = self.len;
+        let n = self.bytes.len();
         if out.len() < n {
             return Err(Refusal::at(Reason::OutputShort, n as u64));
         }
-        out[0..n].copy_from_slice(&self.bytes[0..n]);
+        out[0..n].copy_from_slice(self.bytes.as_slice());
         Ok(n)
     }
-}
-
-/// How many digits n has in decimal.
-fn decimal_len(n: u64) -> usize
-    ensures answer { result ≡ length (decimal n) }
-{
-    let mut left = n;
-    for len in 1..MOST_DIGITS {
-        if left < 10 {
-            return len;
-        }
-        left = left / 10;
-    }
-    MOST_DIGITS
 }
