@@ -89,7 +89,7 @@ impl Splitter {
         ensures after { self.new.complete ≡ false }
     {
         if self.complete {
-            self.bytes.clear();
+            self.bytes = ArrayVec::new();
             self.number = self.number.saturating_add(1);
             self.complete = false;
         }
