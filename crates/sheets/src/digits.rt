@@ -2,6 +2,12 @@
 ghost use Rattle.std.specs.Prelude.{◌≡◌, ◌^◌, ◌<◌, ◌≤◌, true, false, take, MatchOption};
 ghost use Rattle.sheets.specs.Digits.{worth, digit_byte, is_digit, run, number_of};
 
+use numbers::kind::Kind;
+use numbers::patterns::Patterns;
+
+/// A pattern has a hexadecimal digit for every four of its bits.
+pub(crate) const PATTERN_DIGITS: usize = Patterns::WIDTH as usize / 4;
+
 /// The digits at the front of a text: how many, and the number that they write.
 #[derive(Clone, Copy)]
 pub struct Numeral {

@@ -43,7 +43,7 @@ fn sum_text(pattern: u64, products: u64) -> Text
 {
     let mut text = Text::new();
     text.put_bytes(b"sum\t");
-    text.put_digits(pattern, 16, 16);
+    text.put_pattern(pattern);
     text.put_bytes(b"\t");
     text.put_decimal(products);
     text.put_bytes(b"\n");

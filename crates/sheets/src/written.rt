@@ -9,7 +9,7 @@ ghost use Rattle.sheets.specs.Lines.{field_text, place_of, HoldsPattern, HoldsCo
 ghost use Rattle.sheets.specs.Outputs.{text_of};
 ghost use Rattle.sheets.specs.Shapes.{pattern_shape, count_shape};
 
-use crate::digits::{Numeral, read_digits};
+use crate::digits::{Numeral, PATTERN_DIGITS, read_digits};
 use crate::line::Field;
 use crate::text::Text;
 use numbers::counts::Counts;
@@ -81,9 +81,6 @@ impl Written for Patterns {
     }
 }
 
-/// A pattern has a hexadecimal digit for every four bits.
-const PATTERN_DIGITS: usize = Patterns::WIDTH as usize / 4;
-
 /// A pattern at the front.
 fn read_pattern(bytes: &[u8]) -> Result<Read<u64>, usize>
     ensures answer { ReadsText pattern_shape pattern_text NoPattern bytes.now result }
@@ -107,7 +104,7 @@ fn text_of_pattern(element: u64) -> Text
     ensures law { Stands 112 pattern_shape NoPattern (pattern_text element) (λ f. HoldsPattern f element) }
 {
     let mut text = Text::new();
-    text.put_digits(element, 16, PATTERN_DIGITS);
+    text.put_pattern(element);
     text
 }
 
@@ -169,10 +166,7 @@ fn text_of_count(element: i32) -> Text
     ensures law { Stands 99 count_shape NoCount (count_text element) (λ f. HoldsCount f element) }
 {
     let mut text = Text::new();
-    if element < 0 {
-        text.put_bytes(b"-");
-    }
-    text.put_decimal(u64::from(element.unsigned_abs()));
+    text.put_decimal(element);
     text
 }
 

@@ -1,15 +1,13 @@
 //! Putting a text together, and handing it to the caller.
-ghost use Rattle.std.specs.Prelude.{◌≡◌, ◌≤◌, [], ◌∷◌, length, decimal};
-ghost use Rattle.sheets.specs.Digits.{last_digits};
+ghost use Rattle.std.specs.Prelude.{◌≡◌, [], ◌∷◌, length};
+ghost use Rattle.sheets.specs.Elements.{pattern_text};
 ghost use Rattle.sheets.specs.Outputs.{text_of, put, Fits, handed};
 
-use crate::digits::digit_byte;
+use crate::digits::{PATTERN_DIGITS, digit_byte};
 use crate::text::Text;
 use arrayvec::ArrayVec;
-use itoa::Buffer;
+use itoa::{Buffer, Integer};
 use numbers::refusal::{Reason, Refusal};
-
-const MOST_DIGITS: usize = 20;
 
 impl Text {
     pub(crate) fn new() -> Self
@@ -41,23 +39,22 @@ impl Text {
         self.put_bytes(text.bytes.as_slice());
     }
 
-    /// Puts the last `count` digits of n, the highest first.
-    pub(crate) fn put_digits(&mut self, n: u64, radix: u64, count: usize)
-        requires { (1 ≤ radix) × ((radix ≤ 16) × (count ≤ 20)) }
-        ensures bytes { text_of self.new ≡ put (text_of self.old) (last_digits radix count n) }
+    /// Puts a pattern in hexadecimal, a digit for every four of its bits.
+    pub(crate) fn put_pattern(&mut self, pattern: u64)
+        ensures bytes { text_of self.new ≡ put (text_of self.old) (pattern_text pattern) }
     {
-        let mut digits = [0; MOST_DIGITS];
-        let mut left = n;
-        for k in 0..count {
-            digits[MOST_DIGITS - 1 - k] = digit_byte((left % radix) as u8);
-            left = left / radix;
+        let mut digits = [0; PATTERN_DIGITS];
+        let mut left = pattern;
+        for at in (0..PATTERN_DIGITS).rev() {
+            digits[at] = digit_byte((left % 16) as u8);
+            left /= 16;
         }
-        self.put_bytes(&digits[MOST_DIGITS - count..]);
+        self.put_bytes(&digits);
     }
 
     /// Puts n in decimal, without leading zeros.
-    pub(crate) fn put_decimal(&mut self, n: u64)
-        ensures bytes { text_of self.new ≡ put (text_of self.old) (decimal n) }
+    pub(crate) fn put_decimal<I: Integer>(&mut self, n: I)
+        ensures bytes { text_of self.new ≡ put (text_of self.old) (I.text n) }
     {
         self.put_bytes(Buffer::new().format(n).as_bytes());
     }

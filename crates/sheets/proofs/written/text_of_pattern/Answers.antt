@@ -16,7 +16,7 @@ returns c =
     let element = c.args.element in
     let len = length_last 16 16 element in
     record {
-      bytes = put_on (text_of c.new-text.result) (text_of c.put_digits.new.self) [] (last_digits 16 16 element) c.put_digits.ensures.bytes c.new-text.ensures.bytes (omega arith);
+      bytes = put_on (text_of c.new-text.result) (text_of c.put_pattern.new.self) [] (last_digits 16 16 element) c.put_pattern.ensures.bytes c.new-text.ensures.bytes (omega arith);
       limits = omega arith;
       law = record { leads = pattern-leads; is_shape = digits_repeat 16 refl 16 (last_digits 16 16 element) (digits_last 16 16 element (lit< tt) (lit≤ tt)) len; inside = λ bad. bad; back = pattern-back element c.ranges.element.fits };
     }
