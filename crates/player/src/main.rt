@@ -8,10 +8,11 @@ mod text;
 
 use player::Player;
 use reply::Reply;
-use std::alloc::Global;
+use std::alloc::{AllocError, Global};
 use std::io;
 use std::io::{BufWriter, Write};
 use step::read_step;
+use text::ReadError;
 
 fn main(rt: HostRuntime) -> anyhow::Result<()> {
     let text = io::read_to_string(rt.alloc(), rt.stdin())?;
@@ -33,9 +34,10 @@ fn is_remark(line: &str) -> bool {
 }
 
 /// Makes the step that a line writes.
-fn reply_to(player: &mut Player, heap: Global, line: &str) -> anyhow::Result<Reply> {
-    match read_step(heap, line)? {
-        Some(step) => Ok(player.play(&step)),
-        None => Ok(Reply::NoStep),
+fn reply_to(player: &mut Player, heap: Global, line: &str) -> Result<Reply, AllocError> {
+    match read_step(heap, line) {
+        Ok(step) => Ok(player.play(&step)),
+        Err(ReadError::NoStep) => Ok(Reply::NoStep),
+        Err(ReadError::Memory(error)) => Err(error),
     }
 }

@@ -3,12 +3,11 @@ ghost use Rattle.std.specs.Prelude.{◌≡◌, false};
 ghost use Rattle.player.specs.Played.{condenser_of, is_open, sort_of, enters, stays_open, opens};
 
 use crate::reply::Reply;
-use crate::step::{Elements, Step, Table};
+use crate::step::{Step, Table};
 use condensers::column_table::ColumnTable;
 use condensers::condenser::Condenser;
 use condensers::pairing_table::PairingTable;
 use run_trials::duo::Duo;
-use runs::queue::Call;
 use runs::run::{Open, Sealed};
 
 /// A run over a condenser.
@@ -36,22 +35,24 @@ impl Player {
         }
         match std::mem::replace(self, Player::Idle) {
             Player::Idle => Reply::NotAllowed,
-            Player::Pairing(run) => {
-                let (next, reply) = run.step(step);
-                *self = Player::Pairing(next);
-                reply
-            }
-            Player::Column(run) => {
-                let (next, reply) = run.step(step);
-                *self = Player::Column(next);
-                reply
-            }
-            Player::Duo(run) => {
-                let (next, reply) = run.step(step);
-                *self = Player::Duo(next);
-                reply
-            }
+            Player::Pairing(run) => self.play_on(run, step, Player::Pairing),
+            Player::Column(run) => self.play_on(run, step, Player::Column),
+            Player::Duo(run) => self.play_on(run, step, Player::Duo),
         }
+    }
+
+    /// Makes a step on a run of one make, and keeps the run after it.
+    fn play_on<C: Condenser + Drop, F: FnOnce(Run<C>) -> Player>(
+        &mut self,
+        run: Run<C>,
+        step: &Step,
+        player: F,
+    ) -> Reply
+        requires call { F.IsAlwaysCallable player }
+    {
+        let (next, reply) = run.step(step);
+        *self = player(next);
+        reply
     }
 
     fn opened(table: Table) -> Player {
@@ -78,31 +79,15 @@ fn open_step<C: Condenser + Drop>(run: Open<C>, step: &Step) -> (Run<C>, Reply)
     ensures unchanged { enters (sort_of step.now) ≡ false → condenser_of result.0 ≡ run.condenser }
     ensures after { is_open result.0 ≡ stays_open (sort_of step.now) }
 {
+    if let Step::Seal = step {
+        return (Run::Sealed(run.seal()), Reply::Done);
+    }
     let mut run = run;
-    let reply = match step {
-        Step::Seal => return (Run::Sealed(run.seal()), Reply::Done),
-        Step::Take(firsts, seconds) => take(&mut run, firsts, seconds),
-        Step::Withdraw(firsts, seconds) => withdraw(&mut run, firsts, seconds),
-        Step::SheetLine(line) => Reply::of_call(run.enter(line.as_slice())),
-        _ => Reply::NotAllowed,
+    let reply = match step.call() {
+        Some(call) => Reply::from(run.call(&call)),
+        None => Reply::NotAllowed,
     };
     (Run::Open(run), reply)
-}
-
-fn take<'a, C: Condenser + Drop>(
-    run: &mut Open<C>,
-    firsts: &'a Elements,
-    seconds: &'a Elements,
-) -> Reply {
-    Reply::of_call(run.call(&Call::Take(firsts.lent(), seconds.lent())))
-}
-
-fn withdraw<'a, C: Condenser + Drop>(
-    run: &mut Open<C>,
-    firsts: &'a Elements,
-    seconds: &'a Elements,
-) -> Reply {
-    Reply::of_call(run.call(&Call::Withdraw(firsts.lent(), seconds.lent())))
 }
 
 /// A step on a sealed run: a reading, the count, or the resumption.
@@ -112,7 +97,7 @@ fn sealed_step<C: Condenser + Drop>(run: Sealed<C>, step: &Step) -> (Run<C>, Rep
 {
     let reply = match step {
         Step::Resume => return (Run::Open(run.resume()), Reply::Done),
-        Step::Read(form) => Reply::of_reading(run.read(*form)),
+        Step::Read(form) => Reply::from(run.read(*form)),
         Step::Count => Reply::Number(run.products()),
         _ => Reply::NotAllowed,
     };

@@ -15,21 +15,17 @@ pub enum Reply {
     NoStep,
 }
 
-impl Reply {
-    /// The answer of a call that enters products.
-    pub(crate) fn of_call(res: Result<(), Refusal>) -> Reply {
-        match res {
-            Ok(()) => Reply::Done,
-            Err(refusal) => Reply::Refused(refusal),
-        }
+/// The answer of a call that enters products.
+impl From<Result<(), Refusal>> for Reply {
+    fn from(res: Result<(), Refusal>) -> Reply {
+        res.map_or_else(Reply::Refused, |()| Reply::Done)
     }
+}
 
-    /// The answer of a reading.
-    pub(crate) fn of_reading(res: Result<u64, Refusal>) -> Reply {
-        match res {
-            Ok(pattern) => Reply::Pattern(pattern),
-            Err(refusal) => Reply::Refused(refusal),
-        }
+/// The answer of a reading.
+impl From<Result<u64, Refusal>> for Reply {
+    fn from(res: Result<u64, Refusal>) -> Reply {
+        res.map_or_else(Reply::Refused, Reply::Pattern)
     }
 }
 

@@ -1,8 +1,13 @@
 //! The steps of a queue, and how a line of text writes one.
-use crate::text::{read_bytes, read_counts, read_patterns};
+ghost use Rattle.std.specs.Prelude.{◌≡◌, false, is_none};
+ghost use Rattle.player.specs.Played.{sort_of, enters};
+
+use crate::text::{ReadError, read_bytes, read_count, read_list, read_pattern};
 use readings::forms::{Direction, Form, Width};
 use runs::queue;
-use std::alloc::{AllocError, Global};
+use runs::queue::Call;
+use std::alloc::Global;
+use std::str::FromStr;
 
 /// The make of the condenser that a run is opened on.
 #[derive(Clone, Copy)]
@@ -11,6 +16,19 @@ pub enum Table {
     Column,
     /// Room for two pieces.
     Duo,
+}
+
+impl FromStr for Table {
+    type Err = ReadError;
+
+    fn from_str(word: &str) -> Result<Table, ReadError> {
+        match word {
+            "pairing" => Ok(Table::Pairing),
+            "column" => Ok(Table::Column),
+            "duo" => Ok(Table::Duo),
+            _ => Err(ReadError::NoStep),
+        }
+    }
 }
 
 /// A slice of elements of one kind.
@@ -22,7 +40,7 @@ pub enum Elements {
 
 impl Elements {
     /// The same elements, lent to a call.
-    pub(crate) fn lent(&self) -> queue::Elements<'_> {
+    fn lent(&self) -> queue::Elements<'_> {
         match self {
             Elements::Patterns(patterns) => queue::Elements::Patterns(patterns.as_slice()),
             Elements::Counts(counts) => queue::Elements::Counts(counts.as_slice()),
@@ -43,109 +61,93 @@ pub enum Step {
     Count,
 }
 
-/// The step that a line writes, or none where it writes no step.
-pub(crate) fn read_step(heap: Global, line: &str) -> Result<Option<Step>, AllocError> {
-    match line.split_once(" ") {
+impl Step {
+    /// The call that the step makes on an open run, where it makes one.
+    pub(crate) fn call(&self) -> Option<Call<'_>>
+        ensures call { enters (sort_of self.now) ≡ false → result ≡ None }
+    {
+        match self {
+            Step::Take(firsts, seconds) => Some(Call::Take(firsts.lent(), seconds.lent())),
+            Step::Withdraw(firsts, seconds) => Some(Call::Withdraw(firsts.lent(), seconds.lent())),
+            Step::SheetLine(line) => Some(Call::SheetLine(line.as_slice())),
+            _ => None,
+        }
+    }
+}
+
+/// The step that a line writes.
+pub(crate) fn read_step(heap: Global, line: &str) -> Result<Step, ReadError> {
+    match line.split_once(' ') {
         None => read_word(heap, line),
-        Some(("line", text)) => read_sheet_line(heap, text),
         Some((word, rest)) => read_words(heap, word, rest),
     }
 }
 
 /// A step of one word.
-fn read_word(heap: Global, word: &str) -> Result<Option<Step>, AllocError> {
-    Ok(match word {
-        "line" => Some(Step::SheetLine(Vec::new(heap))),
-        "seal" => Some(Step::Seal),
-        "resume" => Some(Step::Resume),
-        "count" => Some(Step::Count),
-        _ => None,
-    })
-}
-
-fn read_sheet_line(heap: Global, text: &str) -> Result<Option<Step>, AllocError> {
-    match read_bytes(heap, text.as_bytes())? {
-        Some(bytes) => Ok(Some(Step::SheetLine(bytes))),
-        None => Ok(None),
-    }
-}
-
-/// A step of a word and one or two more.
-fn read_words(heap: Global, word: &str, rest: &str) -> Result<Option<Step>, AllocError> {
+fn read_word(heap: Global, word: &str) -> Result<Step, ReadError> {
     match word {
-        "open" => Ok(read_open(rest)),
-        "take" => read_slices(heap, false, rest),
-        "withdraw" => read_slices(heap, true, rest),
-        "read" => Ok(read_reading(rest)),
-        _ => Ok(None),
+        "line" => Ok(Step::SheetLine(Vec::new(heap))),
+        "seal" => Ok(Step::Seal),
+        "resume" => Ok(Step::Resume),
+        "count" => Ok(Step::Count),
+        _ => Err(ReadError::NoStep),
     }
 }
 
-fn read_open(table: &str) -> Option<Step> {
-    match table {
-        "pairing" => Some(Step::Open(Table::Pairing)),
-        "column" => Some(Step::Open(Table::Column)),
-        "duo" => Some(Step::Open(Table::Duo)),
-        _ => None,
+/// A step of a word and what is behind it.
+fn read_words(heap: Global, word: &str, rest: &str) -> Result<Step, ReadError> {
+    match word {
+        "line" => Ok(Step::SheetLine(read_bytes(heap, rest.as_bytes())?)),
+        "open" => Ok(Step::Open(rest.parse::<Table>()?)),
+        "take" => read_slices(heap, rest, Step::Take),
+        "withdraw" => read_slices(heap, rest, Step::Withdraw),
+        "read" => read_reading(rest),
+        _ => Err(ReadError::NoStep),
     }
 }
 
-fn read_slices(heap: Global, withdrawn: bool, rest: &str) -> Result<Option<Step>, AllocError> {
-    let Some((first, second)) = rest.split_once(" ") else {
-        return Ok(None);
-    };
-    let Some(firsts) = read_elements(heap, first)? else {
-        return Ok(None);
-    };
-    let Some(seconds) = read_elements(heap, second)? else {
-        return Ok(None);
-    };
-    if withdrawn {
-        return Ok(Some(Step::Withdraw(firsts, seconds)));
-    }
-    Ok(Some(Step::Take(firsts, seconds)))
+/// The step of two slices.
+fn read_slices<F: FnOnce(Elements, Elements) -> Step>(
+    heap: Global,
+    rest: &str,
+    step: F,
+) -> Result<Step, ReadError>
+    requires call { F.IsAlwaysCallable step }
+{
+    let (first, second) = rest.split_once(' ').ok_or(ReadError::NoStep)?;
+    Ok(step(read_elements(heap, first)?, read_elements(heap, second)?))
 }
 
 /// The letter of a kind, a colon, and elements parted by commas.
-fn read_elements(heap: Global, word: &str) -> Result<Option<Elements>, AllocError> {
-    match word.split_once(":") {
-        Some(("p", list)) => {
-            let Some(patterns) = read_patterns(heap, list)? else {
-                return Ok(None);
-            };
-            Ok(Some(Elements::Patterns(patterns)))
-        }
-        Some(("c", list)) => {
-            let Some(counts) = read_counts(heap, list)? else {
-                return Ok(None);
-            };
-            Ok(Some(Elements::Counts(counts)))
-        }
-        _ => Ok(None),
+fn read_elements(heap: Global, word: &str) -> Result<Elements, ReadError> {
+    match word.split_once(':') {
+        Some(("p", list)) => Ok(Elements::Patterns(read_list(heap, list, read_pattern)?)),
+        Some(("c", list)) => Ok(Elements::Counts(read_list(heap, list, read_count)?)),
+        _ => Err(ReadError::NoStep),
     }
 }
 
-fn read_reading(rest: &str) -> Option<Step> {
-    let (direction, width) = rest.split_once(" ")?;
+fn read_reading(rest: &str) -> Result<Step, ReadError> {
+    let (direction, width) = rest.split_once(' ').ok_or(ReadError::NoStep)?;
     let direction = read_direction(direction)?;
     let width = read_width(width)?;
-    Some(Step::Read(Form { direction, width }))
+    Ok(Step::Read(Form { direction, width }))
 }
 
-fn read_direction(word: &str) -> Option<Direction> {
+fn read_direction(word: &str) -> Result<Direction, ReadError> {
     match word {
-        "nearest" => Some(Direction::Nearest),
-        "zero" => Some(Direction::TowardZero),
-        "up" => Some(Direction::Up),
-        "down" => Some(Direction::Down),
-        _ => None,
+        "nearest" => Ok(Direction::Nearest),
+        "zero" => Ok(Direction::TowardZero),
+        "up" => Ok(Direction::Up),
+        "down" => Ok(Direction::Down),
+        _ => Err(ReadError::NoStep),
     }
 }
 
-fn read_width(word: &str) -> Option<Width> {
+fn read_width(word: &str) -> Result<Width, ReadError> {
     match word {
-        "long" => Some(Width::Long),
-        "short" => Some(Width::Short),
-        _ => None,
+        "long" => Ok(Width::Long),
+        "short" => Ok(Width::Short),
+        _ => Err(ReadError::NoStep),
     }
 }

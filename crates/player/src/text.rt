@@ -1,104 +1,99 @@
 //! Lists of patterns and counts, and bytes with escapes, as a queue writes them.
-use std::alloc::{AllocError, Global};
+ghost use Rattle.std.specs.Prelude.{◌<◌, length, IfOk};
 
-/// Patterns parted by commas, each of 16 digits.
-pub(crate) fn read_patterns(heap: Global, list: &str) -> Result<Option<Vec<u64>>, AllocError> {
-    let mut patterns = Vec::new(heap);
-    if list.is_empty() {
-        return Ok(Some(patterns));
-    }
-    for digits in list.split(",") {
-        let Some(pattern) = read_pattern(digits.as_bytes()) else {
-            return Ok(None);
-        };
-        patterns.push(pattern)?;
-    }
-    Ok(Some(patterns))
+use std::alloc::{AllocError, AllocFailed, Global};
+use std::num::ParseIntError;
+
+/// Why no step was read.
+#[derive(Clone, Copy)]
+pub enum ReadError {
+    /// The text writes no step.
+    NoStep,
+    Memory(AllocError),
 }
 
-/// Counts parted by commas.
-pub(crate) fn read_counts(heap: Global, list: &str) -> Result<Option<Vec<i32>>, AllocError> {
-    let mut counts = Vec::new(heap);
+impl From<AllocError> for ReadError {
+    fn from(error: AllocError) -> ReadError {
+        ReadError::Memory(error)
+    }
+}
+
+impl<T: Drop> From<AllocFailed<T>> for ReadError {
+    fn from(failed: AllocFailed<T>) -> ReadError {
+        ReadError::Memory(AllocError::from(failed))
+    }
+}
+
+impl From<ParseIntError> for ReadError {
+    fn from(_error: ParseIntError) -> ReadError {
+        ReadError::NoStep
+    }
+}
+
+/// Elements parted by commas, each as `read` reads it.
+pub(crate) fn read_list<T: Drop, F: Fn(&str) -> Result<T, ReadError>>(
+    heap: Global,
+    list: &str,
+    read: F,
+) -> Result<Vec<T>, ReadError>
+    requires call { F.IsAlwaysCallable read }
+{
     if list.is_empty() {
-        return Ok(Some(counts));
+        return Ok(Vec::new(heap));
     }
-    for digits in list.split(",") {
-        let Ok(count) = digits.parse::<i32>() else {
-            return Ok(None);
-        };
-        counts.push(count)?;
-    }
-    Ok(Some(counts))
+    list.split(',').map(|text| read(text)).try_collect(heap)
+}
+
+/// A count in decimal.
+pub(crate) fn read_count(text: &str) -> Result<i32, ReadError> {
+    Ok(text.parse::<i32>()?)
 }
 
 /// The pattern of 16 digits.
-fn read_pattern(digits: &[u8]) -> Option<u64> {
-    if digits.len() != 16 {
-        return None;
+pub(crate) fn read_pattern(text: &str) -> Result<u64, ReadError> {
+    if text.len() != 16 {
+        return Err(ReadError::NoStep);
     }
-    let mut pattern = 0u64;
-    for byte in digits {
-        let digit = hexadecimal(*byte)?;
-        pattern = pattern.wrapping_mul(16).wrapping_add(u64::from(digit));
+    let mut pattern = 0;
+    for byte in text.bytes() {
+        pattern = pattern << 4 | u64::from(read_digit(byte)?);
     }
-    Some(pattern)
+    Ok(pattern)
 }
 
 /// The value of a hexadecimal digit, written small.
-fn hexadecimal(byte: u8) -> Option<u8> {
+fn read_digit(byte: u8) -> Result<u8, ReadError> {
     match byte {
-        b'0'..=b'9' => Some(byte - b'0'),
-        b'a'..=b'f' => Some(byte - b'a' + 10),
-        _ => None,
+        b'0'..=b'9' => Ok(byte - b'0'),
+        b'a'..=b'f' => Ok(byte - b'a' + 10),
+        _ => Err(ReadError::NoStep),
     }
-}
-
-/// What comes next in a text with escapes.
-enum Next {
-    /// A byte, and how many bytes write it.
-    Byte(u8, usize),
-    /// An escape that means nothing.
-    Unknown,
 }
 
 /// The bytes of a text in which `\t`, `\n`, `\\` and `\x` with two digits each stand for one byte.
-pub(crate) fn read_bytes(heap: Global, text: &[u8]) -> Result<Option<Vec<u8>>, AllocError> {
+pub(crate) fn read_bytes(heap: Global, text: &[u8]) -> Result<Vec<u8>, ReadError> {
     let mut bytes = Vec::new(heap);
-    let mut skip = 0usize;
-    for at in 0..text.len() {
-        if skip > 0 {
-            skip -= 1;
-            continue;
-        }
-        match next_byte(&text[at..]) {
-            Next::Byte(byte, length) => {
-                bytes.push(byte)?;
-                skip = length.saturating_sub(1);
-            }
-            Next::Unknown => return Ok(None),
-        }
+    let mut rest = text;
+    while !rest.is_empty() {
+        let (byte, behind) = split_byte(rest)?;
+        bytes.push(byte)?;
+        rest = behind;
     }
-    Ok(Some(bytes))
+    Ok(bytes)
 }
 
-fn next_byte(text: &[u8]) -> Next {
+/// The byte that a text begins with, and the text behind what writes it.
+fn split_byte(text: &[u8]) -> Result<(u8, &[u8]), ReadError>
+    ensures after { IfOk result (λ read. length read.1.now < length text.now) }
+{
     match text {
-        [b'\\', b't', ..] => Next::Byte(b'\t', 2),
-        [b'\\', b'n', ..] => Next::Byte(b'\n', 2),
-        [b'\\', b'\\', ..] => Next::Byte(b'\\', 2),
-        [b'\\', b'x', high, low, ..] => escaped(*high, *low),
-        [b'\\', ..] => Next::Unknown,
-        [plain, ..] => Next::Byte(*plain, 1),
-        [] => Next::Unknown,
+        [b'\\', b't', rest @ ..] => Ok((b'\t', rest)),
+        [b'\\', b'n', rest @ ..] => Ok((b'\n', rest)),
+        [b'\\', b'\\', rest @ ..] => Ok((b'\\', rest)),
+        [b'\\', b'x', high, low, rest @ ..] => {
+            Ok((read_digit(*high)? << 4 | read_digit(*low)?, rest))
+        }
+        [b'\\', ..] | [] => Err(ReadError::NoStep),
+        [plain, rest @ ..] => Ok((*plain, rest)),
     }
-}
-
-fn escaped(high: u8, low: u8) -> Next {
-    let Some(high) = hexadecimal(high) else {
-        return Next::Unknown;
-    };
-    let Some(low) = hexadecimal(low) else {
-        return Next::Unknown;
-    };
-    Next::Byte(high.wrapping_mul(16).wrapping_add(low), 4)
 }
