@@ -7,13 +7,12 @@ mod show;
 use condensers::column_table::ColumnTable;
 use condensers::pairing_table::PairingTable;
 use numbers::counts::Counts;
-use numbers::refusal::Refusal;
 use queues::{FIRST, FIRST_WITH_MORE, SECOND};
 use readings::forms::Direction;
 use runs::agreement::compare_queues;
 use runs::queue::{Answer, Leg};
 use runs::run::Open;
-use show::{direction_name, show_answer, show_call, show_form};
+use show::{AnswerText, CallText, ReadingText, direction_name};
 use std::io;
 use std::io::{BufWriter, Write};
 
@@ -89,51 +88,33 @@ fn show_readings<W: Write>(
         &mut [],
         direction,
     );
-    let name = direction_name(direction);
     let one = reports.first;
     let other = reports.second;
-    let one_reading = one.reading;
-    let one_products = one.products;
-    let other_reading = other.reading;
-    let other_products = other.products;
     writeln!(
         out,
-        "{name}: {one_reading:016x} of {one_products} products and {other_reading:016x} of {other_products}"
+        "{}: {:016x} of {} products and {:016x} of {}",
+        direction_name(direction),
+        one.reading,
+        one.products,
+        other.reading,
+        other.products
     )
 }
 
 /// The steps of a queue, each call with its answer.
 fn show_queue<W: Write>(out: &mut W, queue: &[Leg], answers: &[Answer]) -> io::Result<()> {
-    let mut next = 0;
+    let mut answers = answers.iter();
     for leg in queue {
-        next = show_leg(out, leg, answers, next)?;
+        for (call, answer) in leg.calls.iter().zip(&mut answers) {
+            writeln!(out, "  {}: {}", CallText(call), AnswerText(*answer))?;
+        }
+        writeln!(out, "  seal")?;
+        for form in leg.readings {
+            writeln!(out, "  {}", ReadingText(*form))?;
+        }
+        writeln!(out, "  resume")?;
     }
     writeln!(out, "  seal")
-}
-
-fn show_leg<W: Write>(
-    out: &mut W,
-    leg: &Leg,
-    answers: &[Answer],
-    start: usize,
-) -> io::Result<usize> {
-    let mut next = start;
-    for call in leg.calls {
-        write!(out, "  ")?;
-        show_call(out, call)?;
-        write!(out, ": ")?;
-        show_answer(out, answers.get(next).copied().unwrap_or(NO_ANSWER))?;
-        writeln!(out)?;
-        next = next.saturating_add(1);
-    }
-    writeln!(out, "  seal")?;
-    for form in leg.readings {
-        write!(out, "  ")?;
-        show_form(out, *form)?;
-        writeln!(out)?;
-    }
-    writeln!(out, "  resume")?;
-    Ok(next)
 }
 
 /// A run over two states: an open one takes, a sealed one is read, and each is used up where it becomes the other.

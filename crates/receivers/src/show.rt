@@ -1,77 +1,93 @@
 //! The calls of a queue, their answers and the forms of readings as plain text.
 use readings::forms::{Direction, Form, Width};
 use runs::queue::{Answer, Call, Elements};
-use std::io;
-use std::io::Write;
+use std::fmt;
 
 /// A call as one step of a text queue.
-pub(crate) fn show_call<W: Write>(out: &mut W, call: &Call) -> io::Result<()> {
-    match call {
-        Call::Take(firsts, seconds) => show_slices(out, "take", firsts, seconds),
-        Call::Withdraw(firsts, seconds) => show_slices(out, "withdraw", firsts, seconds),
-        Call::SheetLine(line) => {
-            write!(out, "line ")?;
-            show_text(out, line)
+#[derive(Clone, Copy)]
+pub struct CallText<'a>(pub &'a Call<'a>);
+
+impl<'a> fmt::Display for CallText<'a> {
+    fn fmt<W: fmt::Write>(&self, f: &mut fmt::Formatter<W>) -> fmt::Result {
+        match *self.0 {
+            Call::Take(firsts, seconds) => write!(
+                f,
+                "take {} {}",
+                ElementsText(firsts),
+                ElementsText(seconds)
+            ),
+            Call::Withdraw(firsts, seconds) => write!(
+                f,
+                "withdraw {} {}",
+                ElementsText(firsts),
+                ElementsText(seconds)
+            ),
+            Call::SheetLine(line) => write!(f, "line {}", line.escape_ascii()),
         }
     }
 }
 
-fn show_slices<W: Write>(
-    out: &mut W,
-    word: &str,
-    firsts: &Elements,
-    seconds: &Elements,
-) -> io::Result<()> {
-    write!(out, "{word} ")?;
-    show_elements(out, firsts)?;
-    write!(out, " ")?;
-    show_elements(out, seconds)
-}
+/// The letter of a kind, and the elements parted by commas.
+#[derive(Clone, Copy)]
+struct ElementsText<'a>(Elements<'a>);
 
-/// The letter of the kind, and the elements parted by commas.
-fn show_elements<W: Write>(out: &mut W, elements: &Elements) -> io::Result<()> {
-    match elements {
-        Elements::Patterns(patterns) => show_patterns(out, patterns),
-        Elements::Counts(counts) => show_counts(out, counts),
-    }
-}
-
-fn show_patterns<W: Write>(out: &mut W, patterns: &[u64]) -> io::Result<()> {
-    let mut mark = "p:";
-    for pattern in patterns {
-        write!(out, "{mark}{pattern:016x}")?;
-        mark = ",";
-    }
-    Ok(())
-}
-
-fn show_counts<W: Write>(out: &mut W, counts: &[i32]) -> io::Result<()> {
-    let mut mark = "c:";
-    for count in counts {
-        write!(out, "{mark}{count}")?;
-        mark = ",";
-    }
-    Ok(())
-}
-
-/// A line's bytes, a tab as `\t`.
-fn show_text<W: Write>(out: &mut W, line: &[u8]) -> io::Result<()> {
-    for byte in line {
-        match *byte {
-            b'\t' => write!(out, "\\t")?,
-            other => out.write_all(&[other])?,
+impl<'a> fmt::Display for ElementsText<'a> {
+    fn fmt<W: fmt::Write>(&self, f: &mut fmt::Formatter<W>) -> fmt::Result {
+        match self.0 {
+            Elements::Patterns(patterns) => {
+                show_list(f, "p:", patterns, |f, pattern| write!(f, "{pattern:016x}"))
+            }
+            Elements::Counts(counts) => show_list(f, "c:", counts, |f, count| write!(f, "{count}")),
         }
+    }
+}
+
+/// A mark, and the elements parted by commas, each as `show` shows it.
+fn show_list<T, W: fmt::Write, F: Fn(&mut fmt::Formatter<W>, &T) -> fmt::Result>(
+    f: &mut fmt::Formatter<W>,
+    mark: &str,
+    elements: &[T],
+    show: F,
+) -> fmt::Result
+    requires call { F.IsAlwaysCallable show }
+{
+    let mut mark = mark;
+    for element in elements {
+        write!(f, "{mark}")?;
+        show(f, element)?;
+        mark = ",";
     }
     Ok(())
 }
 
 /// `ok`, or the three numbers of a refusal.
-pub(crate) fn show_answer<W: Write>(out: &mut W, answer: Answer) -> io::Result<()> {
-    let Answer { code, place, side } = answer;
-    if code == 0 {
-        return write!(out, "ok");
+#[derive(Clone, Copy)]
+pub struct AnswerText(pub Answer);
+
+impl fmt::Display for AnswerText {
+    fn fmt<W: fmt::Write>(&self, f: &mut fmt::Formatter<W>) -> fmt::Result {
+        let Answer { code, place, side } = self.0;
+        if code == 0 {
+            return write!(f, "ok");
+        }
+        write!(f, "no {code} {place} {side}")
     }
-    write!(out, "no {code} {place} {side}")
+}
+
+/// A reading as one step of a text queue.
+#[derive(Clone, Copy)]
+pub struct ReadingText(pub Form);
+
+impl fmt::Display for ReadingText {
+    fn fmt<W: fmt::Write>(&self, f: &mut fmt::Formatter<W>) -> fmt::Result {
+        let Form { direction, width } = self.0;
+        write!(
+            f,
+            "read {} {}",
+            direction_name(direction),
+            width_name(width)
+        )
+    }
 }
 
 /// The name of a direction.
@@ -85,16 +101,9 @@ pub(crate) fn direction_name(direction: Direction) -> &'static str {
 }
 
 /// The name of a width.
-pub(crate) fn width_name(width: Width) -> &'static str {
+fn width_name(width: Width) -> &'static str {
     match width {
         Width::Long => "long",
         Width::Short => "short",
     }
-}
-
-/// A reading as one step of a text queue.
-pub(crate) fn show_form<W: Write>(out: &mut W, form: Form) -> io::Result<()> {
-    let direction = direction_name(form.direction);
-    let width = width_name(form.width);
-    write!(out, "read {direction} {width}")
 }
