@@ -3,6 +3,7 @@
 
 use condensers::pairing_table::PairingTable;
 use reports::sheet::Sheet;
+use std::io;
 use std::io::{BufWriter, Read, Write};
 
 fn main(rt: HostRuntime) -> anyhow::Result<()> {
@@ -11,13 +12,19 @@ fn main(rt: HostRuntime) -> anyhow::Result<()> {
     let mut input = rt.stdin();
     let mut chunk = [0u8; 65536];
     for _ in 0..u64::MAX {
-        let read = input.read(&mut chunk)?;
-        if read == 0 {
+        let part = read_part(&mut input, &mut chunk)?;
+        if part.is_empty() {
             break;
         }
-        sheet.report_part(&chunk[0..read], &mut out)?;
+        sheet.report_part(part, &mut out)?;
     }
     let _run = sheet.report_end(&mut out)?;
     out.flush()?;
     Ok(())
+}
+
+/// The bytes that come next, empty at the end of the input.
+fn read_part<'a, R: Read>(input: &mut R, chunk: &'a mut [u8]) -> io::Result<&'a [u8]> {
+    let read = input.read(chunk)?;
+    Ok(&chunk[..read])
 }
