@@ -9,24 +9,20 @@ use std::io::{BufWriter, Write};
 fn main(rt: HostRuntime) -> anyhow::Result<()> {
     let mut out = BufWriter::new(rt.alloc(), rt.stdout())?;
     let names = fs::read_to_string(&rt, "sheets.txt")?;
-    let mut step = 1usize;
-    for name in names.as_str().lines() {
+    for (at, name) in names.as_str().lines().enumerate() {
         let path = format!(in rt.alloc(); "sheets/{name}")?;
         let bytes = fs::read(&rt, path.as_str())?;
-        out.write_all(b"== ")?;
-        out.write_all(name.as_bytes())?;
-        out.write_all(b"\n")?;
-        report(bytes.as_slice(), step, &mut out)?;
-        step = step % 97 + 1;
+        writeln!(out, "== {name}")?;
+        report(bytes.as_slice(), at, &mut out)?;
     }
     out.flush()?;
     Ok(())
 }
 
-/// The report of a sheet whose bytes come in chunks of `step`.
-fn report<W: Write>(bytes: &[u8], step: usize, out: &mut W) -> anyhow::Result<()> {
+/// The report of a sheet whose bytes come in chunks, of a length by its place among the sheets.
+fn report<W: Write>(bytes: &[u8], at: usize, out: &mut W) -> anyhow::Result<()> {
     let mut sheet = Sheet::new(PairingTable::new());
-    for chunk in bytes.chunks(step.max(1)) {
+    for chunk in bytes.chunks(at % 97 + 1) {
         sheet.report_part(chunk, out)?;
     }
     let _run = sheet.report_end(out)?;
