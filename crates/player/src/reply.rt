@@ -33,12 +33,7 @@ impl fmt::Display for Reply {
     fn fmt<W: fmt::Write>(&self, f: &mut fmt::Formatter<W>) -> fmt::Result {
         match *self {
             Reply::Done => write!(f, "ok"),
-            Reply::Refused(refusal) => {
-                let code = refusal.reason.code();
-                let place = refusal.place;
-                let side = refusal.side.number();
-                write!(f, "no {code} {place} {side}")
-            }
+            Reply::Refused(refusal) => write!(f, "no {refusal}"),
             Reply::Pattern(pattern) => write!(f, "{pattern:016x}"),
             Reply::Number(number) => write!(f, "{number}"),
             Reply::NotAllowed => write!(f, "state"),
