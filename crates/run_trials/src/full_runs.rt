@@ -3,36 +3,26 @@ use crate::duo::Duo;
 use condensers::column_table::ColumnTable;
 use numbers::counts::Counts;
 use numbers::patterns::Patterns;
+use numbers::refusal::{Reason, Refusal, Side};
 use readings::forms::Direction;
 use runs::agreement::compare_queues;
 use runs::queue::{Answer, Call, Elements, Leg};
 use runs::run::Open;
-use std::process::Abort;
 
-const ACCEPTED: Answer = Answer {
-    code: 0,
-    place: 0,
-    side: 0,
-};
-
-/// The refusal with code 4 of a run that has room for so many products.
+/// The refusal of a run that has room for so many products.
 fn full(room: u64) -> Answer {
-    Answer {
-        code: 4,
-        place: room,
-        side: 0,
-    }
+    Err(Refusal::at(Reason::Full, room))
 }
 
 #[test]
 fn three_products_do_not_fit(rt: HostRuntime) {
     let mut run = Open::new(Duo::Empty);
     let three = run.take::<Counts, Counts>(&[1, 2, 3], &[1, 1, 1]);
-    assert_eq!(rt; Answer::of(three), full(2));
+    assert_eq!(rt; three, full(2));
     let two = run.withdraw::<Counts, Counts>(&[1, 2], &[1, 1]);
-    assert_eq!(rt; Answer::of(two), ACCEPTED);
+    assert_eq!(rt; two, Ok(()));
     let none = run.take::<Patterns, Counts>(&[], &[]);
-    assert_eq!(rt; Answer::of(none), ACCEPTED);
+    assert_eq!(rt; none, Ok(()));
     let sealed = run.seal();
     assert_eq!(rt; sealed.products(), 2);
     assert_eq!(rt; sealed.read_long(Direction::Nearest), 0xc008_0000_0000_0000);
@@ -51,6 +41,27 @@ const CALLS: [Call<'static>; 7] = [
     Call::SheetLine(b"add\tc1"),
     Call::SheetLine(b"add\tc2147483648\tc1"),
 ];
+
+/// The answers to `CALLS`.
+fn answers_to_calls() -> [Answer; 7] {
+    [
+        Ok(()),
+        Err(Refusal {
+            reason: Reason::LengthsDiffer,
+            place: 2,
+            side: Side::Second,
+        }),
+        full(1),
+        Ok(()),
+        full(0),
+        Err(Refusal::at(Reason::Shape, 6)),
+        Err(Refusal {
+            reason: Reason::CountRange,
+            place: 4,
+            side: Side::First,
+        }),
+    ]
+}
 
 const SMALL: [Leg<'static>; 1] = [Leg {
     calls: &CALLS,
@@ -80,7 +91,7 @@ const LARGE: [Leg<'static>; 2] = [
 
 #[test]
 fn a_full_run_agrees_with_a_large_one(rt: HostRuntime) {
-    let mut answers = [ACCEPTED; 7];
+    let mut answers = [Ok(()); 7];
     let reports = compare_queues(
         Duo::Empty,
         &SMALL,
@@ -94,37 +105,5 @@ fn a_full_run_agrees_with_a_large_one(rt: HostRuntime) {
     assert_eq!(rt; reports.first.products, 2);
     // 35 + 3
     assert_eq!(rt; reports.first.reading, 0x4043_0000_0000_0000);
-    check_answers(&rt, &answers);
-}
-
-/// The answers to `CALLS`.
-fn check_answers(rt: &impl Abort, answers: &[Answer; 7]) {
-    assert_eq!(rt; answers[0], ACCEPTED);
-    assert_eq!(rt;
-        answers[1],
-        Answer {
-            code: 3,
-            place: 2,
-            side: 2,
-        }
-    );
-    assert_eq!(rt; answers[2], full(1));
-    assert_eq!(rt; answers[3], ACCEPTED);
-    assert_eq!(rt; answers[4], full(0));
-    assert_eq!(rt;
-        answers[5],
-        Answer {
-            code: 5,
-            place: 6,
-            side: 0,
-        }
-    );
-    assert_eq!(rt;
-        answers[6],
-        Answer {
-            code: 6,
-            place: 4,
-            side: 1,
-        }
-    );
+    assert_eq!(rt; answers, answers_to_calls());
 }
