@@ -12,7 +12,7 @@ use readings::forms::Direction;
 use runs::agreement::compare_queues;
 use runs::queue::{Answer, Leg};
 use runs::run::Open;
-use show::{AnswerText, CallText, ReadingText, direction_name};
+use show::{AnswerText, CallText, ReadingText};
 use std::io;
 use std::io::{BufWriter, Write};
 
@@ -86,12 +86,8 @@ fn show_readings<W: Write>(
     let other = reports.second;
     writeln!(
         out,
-        "{}: {:016x} of {} products and {:016x} of {}",
-        direction_name(direction),
-        one.reading,
-        one.products,
-        other.reading,
-        other.products
+        "{direction}: {:016x} of {} products and {:016x} of {}",
+        one.reading, one.products, other.reading, other.products
     )
 }
 

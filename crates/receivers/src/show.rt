@@ -1,5 +1,5 @@
 //! The calls of a queue, their answers and the forms of readings as plain text.
-use readings::forms::{Direction, Form, Width};
+use readings::forms::Form;
 use runs::queue::{Answer, Call, Elements};
 use std::fmt;
 
@@ -9,21 +9,17 @@ pub struct CallText<'a>(pub &'a Call<'a>);
 
 impl<'a> fmt::Display for CallText<'a> {
     fn fmt<W: fmt::Write>(&self, f: &mut fmt::Formatter<W>) -> fmt::Result {
-        match *self.0 {
-            Call::Take(firsts, seconds) => write!(
-                f,
-                "take {} {}",
-                ElementsText(firsts),
-                ElementsText(seconds)
-            ),
-            Call::Withdraw(firsts, seconds) => write!(
-                f,
-                "withdraw {} {}",
-                ElementsText(firsts),
-                ElementsText(seconds)
-            ),
-            Call::SheetLine(line) => write!(f, "line {}", line.escape_ascii()),
-        }
+        let (word, firsts, seconds) = match *self.0 {
+            Call::SheetLine(line) => return write!(f, "line {}", line.escape_ascii()),
+            Call::Take(firsts, seconds) => ("take", firsts, seconds),
+            Call::Withdraw(firsts, seconds) => ("withdraw", firsts, seconds),
+        };
+        write!(
+            f,
+            "{word} {} {}",
+            ElementsText(firsts),
+            ElementsText(seconds)
+        )
     }
 }
 
@@ -80,29 +76,6 @@ pub struct ReadingText(pub Form);
 impl fmt::Display for ReadingText {
     fn fmt<W: fmt::Write>(&self, f: &mut fmt::Formatter<W>) -> fmt::Result {
         let Form { direction, width } = self.0;
-        write!(
-            f,
-            "read {} {}",
-            direction_name(direction),
-            width_name(width)
-        )
-    }
-}
-
-/// The name of a direction.
-pub(crate) fn direction_name(direction: Direction) -> &'static str {
-    match direction {
-        Direction::Nearest => "nearest",
-        Direction::TowardZero => "zero",
-        Direction::Up => "up",
-        Direction::Down => "down",
-    }
-}
-
-/// The name of a width.
-fn width_name(width: Width) -> &'static str {
-    match width {
-        Width::Long => "long",
-        Width::Short => "short",
+        write!(f, "read {direction} {width}")
     }
 }
