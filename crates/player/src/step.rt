@@ -1,9 +1,9 @@
 //! The steps of a queue, and how a line of text writes one.
-ghost use Rattle.std.specs.Prelude.{◌≡◌, false, is_none};
+ghost use Rattle.std.specs.Prelude.{◌≡◌, false};
 ghost use Rattle.player.specs.Played.{sort_of, enters};
 
 use crate::text::{ReadError, read_bytes, read_count, read_list, read_pattern};
-use readings::forms::{Direction, Form, Width};
+use readings::forms::Form;
 use runs::queue;
 use runs::queue::Call;
 use std::alloc::Global;
@@ -98,10 +98,10 @@ fn read_word(heap: Global, word: &str) -> Result<Step, ReadError> {
 fn read_words(heap: Global, word: &str, rest: &str) -> Result<Step, ReadError> {
     match word {
         "line" => Ok(Step::SheetLine(read_bytes(heap, rest.as_bytes())?)),
-        "open" => Ok(Step::Open(rest.parse::<Table>()?)),
+        "open" => Ok(Step::Open(rest.parse()?)),
         "take" => read_slices(heap, rest, Step::Take),
         "withdraw" => read_slices(heap, rest, Step::Withdraw),
-        "read" => read_reading(rest),
+        "read" => Ok(Step::Read(read_form(rest)?)),
         _ => Err(ReadError::NoStep),
     }
 }
@@ -127,27 +127,11 @@ fn read_elements(heap: Global, word: &str) -> Result<Elements, ReadError> {
     }
 }
 
-fn read_reading(rest: &str) -> Result<Step, ReadError> {
+/// A direction and a width.
+fn read_form(rest: &str) -> Result<Form, ReadError> {
     let (direction, width) = rest.split_once(' ').ok_or(ReadError::NoStep)?;
-    let direction = read_direction(direction)?;
-    let width = read_width(width)?;
-    Ok(Step::Read(Form { direction, width }))
-}
-
-fn read_direction(word: &str) -> Result<Direction, ReadError> {
-    match word {
-        "nearest" => Ok(Direction::Nearest),
-        "zero" => Ok(Direction::TowardZero),
-        "up" => Ok(Direction::Up),
-        "down" => Ok(Direction::Down),
-        _ => Err(ReadError::NoStep),
-    }
-}
-
-fn read_width(word: &str) -> Result<Width, ReadError> {
-    match word {
-        "long" => Ok(Width::Long),
-        "short" => Ok(Width::Short),
-        _ => Err(ReadError::NoStep),
-    }
+    Ok(Form {
+        direction: direction.parse()?,
+        width: width.parse()?,
+    })
 }

@@ -1,6 +1,7 @@
 //! Lists of patterns and counts, and bytes with escapes, as a queue writes them.
 ghost use Rattle.std.specs.Prelude.{◌<◌, length, IfOk};
 
+use readings::names::UnknownForm;
 use std::alloc::{AllocError, AllocFailed, Global};
 use std::num::ParseIntError;
 
@@ -26,6 +27,12 @@ impl<T: Drop> From<AllocFailed<T>> for ReadError {
 
 impl From<ParseIntError> for ReadError {
     fn from(_error: ParseIntError) -> ReadError {
+        ReadError::NoStep
+    }
+}
+
+impl From<UnknownForm> for ReadError {
+    fn from(_unknown: UnknownForm) -> ReadError {
         ReadError::NoStep
     }
 }
@@ -62,6 +69,7 @@ pub(crate) fn read_pattern(text: &str) -> Result<u64, ReadError> {
 }
 
 /// The value of a hexadecimal digit, written small.
+// not by char::to_digit, which takes capital letters too
 fn read_digit(byte: u8) -> Result<u8, ReadError> {
     match byte {
         b'0'..=b'9' => Ok(byte - b'0'),
