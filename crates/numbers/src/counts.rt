@@ -29,7 +29,7 @@ impl Kind for Counts {
         ensures answer { Answers (count_value element) result }
         ensures made { CountMade element result }
     {
-        let mut halved = Halved::of(element);
+        let mut halved = Halved::from(element);
         while !halved.is_short() {
             halved = halved.halve()?;
         }
@@ -49,19 +49,20 @@ struct Halved {
     halvings: u8,
 }
 
-impl Halved {
-    /// A count that was not halved yet.
-    fn of(count: i32) -> Halved
-        ensures answer { (result.negative ≡ is_negative count) × (result.size ≡ unsigned_abs count) × (result.halvings ≡ 0) }
-        ensures limits { result.size ≤ 2 ^ 31 }
-    {
+/// A count that was not halved yet.
+impl From<i32> for Halved {
+    ghost from_gives = { λ count h. (h.negative ≡ is_negative count) × (h.size ≡ unsigned_abs count) × (h.halvings ≡ 0) × (h.size ≤ 2 ^ 31) };
+
+    fn from(count: i32) -> Halved {
         Halved {
             negative: count < 0,
             size: count.unsigned_abs(),
             halvings: 0,
         }
     }
+}
 
+impl Halved {
     /// Whether the size is below 2^26, as a significand is.
     fn is_short(self) -> bool
         ensures answer { result ≡ nat_lt self.size (2 ^ 26) }

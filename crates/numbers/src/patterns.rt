@@ -31,7 +31,7 @@ impl Kind for Patterns {
         ensures made { PatternMade element result }
         ensures value { pattern_value element ≡ float_value (from_bits binary64 element) }
     {
-        let parts = Parts::of(element);
+        let parts = Parts::from(element);
         if parts.is_zero() {
             return Ok(Factor::ZERO);
         }
@@ -53,18 +53,20 @@ struct Parts {
     fraction: u64,
 }
 
-impl Parts {
-    /// The sign, the exponent field and the fraction of a pattern.
-    fn of(pattern: u64) -> Parts
-        ensures answer { (result.negative ≡ sign_of pattern) × (result.field ≡ field_of pattern) × (result.fraction ≡ fraction_of pattern) }
-    {
+/// The sign, the exponent field and the fraction of a pattern.
+impl From<u64> for Parts {
+    ghost from_gives = { λ pattern p. (p.negative ≡ sign_of pattern) × (p.field ≡ field_of pattern) × (p.fraction ≡ fraction_of pattern) };
+
+    fn from(pattern: u64) -> Parts {
         Parts {
             negative: pattern >= 1 << 63,
             field: (pattern >> 52) % (1 << 11),
             fraction: pattern % (1 << 52),
         }
     }
+}
 
+impl Parts {
     /// Whether these are the parts of +0 or -0.
     fn is_zero(self) -> bool
         ensures answer { result ≡ (self.field == 0 && self.fraction == 0) }

@@ -23,12 +23,12 @@ pub loop-halved-preserved : goal.loop-halved-preserved
 loop-halved-preserved c =
     let h = c.loop-halved.halved in
     let k = c.in_ok-halved.halved in
-    let o = c.of-halved.ensures in
+    let o = c.from-halved.ensures in
     let once = c.in_ok-halved.ensures.answer in
     let long : 2 ^ 26 ≤ h.size = ltb-false h.size (2 ^ 26) (sym c.loop-halved-test.ensures.answer) in
     let large : 2 ^ 25 ≤ k.size = omega arith in
     let size = halved _ h.size k.size h.halvings k.halvings c.loop-halved.invariant.0 once.1 once.2 in
-    let few = few_halvings c.of-halved.result.size k.size k.halvings (o.answer.1 ∙ size) o.limits (inr large) in
+    let few = few_halvings c.from-halved.result.size k.size k.halvings (o.1 ∙ size) o.3 (inr large) in
     (size, inr large, few, once.0 ∙ c.loop-halved.invariant.3)
 
 pub returns : goal.returns

@@ -9,7 +9,7 @@ use Rattle.numbers.proofs.patterns.PatternsKind.factor.Goals as goal
 pub returns-then-is_zero : goal.returns-then-is_zero
 returns-then-is_zero c =
     let b = c.args.element in
-    let p = c.of-parts.ensures.answer in
+    let p = c.from-parts.ensures in
     let z = both_zero b (sym (c.if-is_zero.ensures.answer ∙ ap₂ (λ (x y : ℕ). eqb x 0 && eqb y 0) p.1 p.2)) in
     record { answer = zero-answer b _ z.0 z.1 refl; made = zero-factor b _ z.0 z.1 refl; value = pattern-value b }
 
@@ -17,7 +17,7 @@ pub returns-in_err-exponent : goal.returns-in_err-exponent
 returns-in_err-exponent c =
     let r = err_from_is_err_and c.from_residual.result c.from_residual.ensures.1 in
     let b = c.args.element in
-    let p = c.of-parts.ensures.answer in
+    let p = c.from-parts.ensures in
     let e = c.in_err-exponent.ensures.answer in
     let nz = not_zero b (sym (c.if-is_zero.ensures.answer ∙ ap₂ (λ (x y : ℕ). eqb x 0 && eqb y 0) p.1 p.2)) in
     let outside = subst (λ (x : ℕ). (x < 512) ⊎ (1506 < x)) p.1 e.0 in
@@ -28,7 +28,7 @@ pub returns-in_err-significand : goal.returns-in_err-significand
 returns-in_err-significand c =
     let r = err_from_is_err_and c.from_residual-in_err-significand.result c.from_residual-in_err-significand.ensures.1 in
     let b = c.args.element in
-    let p = c.of-parts.ensures.answer in
+    let p = c.from-parts.ensures in
     let e = c.in_ok-exponent.ensures.answer in
     let m = c.in_err-significand.ensures.answer in
     let nz = not_zero b (sym (c.if-is_zero.ensures.answer ∙ ap₂ (λ (x y : ℕ). eqb x 0 && eqb y 0) p.1 p.2)) in
@@ -38,7 +38,7 @@ returns-in_err-significand c =
 pub returns : goal.returns
 returns c =
     let b = c.args.element in
-    let p = c.of-parts.ensures.answer in
+    let p = c.from-parts.ensures in
     let e = c.in_ok-exponent.ensures.answer in
     let m = c.in_ok-significand.ensures.answer in
     record {
