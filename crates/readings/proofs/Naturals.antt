@@ -1,5 +1,5 @@
 -- Numbers written in limbs of 64 bits: one limb changed, the lowest limbs, a limb read back. Assumes nothing.
-use Rattle.std.proofs.Common.{◌≡◌, ◌++◌, append-nil, length-take-le, ℕ, Bool, not, ◌||◌, ltb, lt→ltb, zero, suc, ◌+◌, ◌-◌, ◌*◌, ◌/◌, ◌%◌, ◌^◌, ◌<◌, ◌≤◌, ◌≢◌, List, [], ◌∷◌, length, get_or, take, drop, set, sym, refl, ap, ◌∙◌, subst, le_trans, le_of_eq, le_refl, le_of_suc-le-suc, not-suc-le-zero, add-zero, add-suc, mul-le-mul_right, zero-lt-suc, mul_assoc, suc-mul, mul_comm, add-mul, add-sub_of_le, add_comm, le_antisymm, lt_of_not-le, zero-mul, not-le_of_lt, mul_left_comm, le-add_left, add-one, arith, pow_pos, pow_mono, pow-add, shl_exact, shr-shr}
+use Rattle.std.proofs.Common.{◌≡◌, ◌++◌, append-nil, length-take-le, ℕ, Bool, not, eqb, ◌||◌, ltb, lt→ltb, zero, suc, ◌+◌, ◌-◌, ◌*◌, ◌/◌, ◌%◌, ◌^◌, ◌<◌, ◌≤◌, ◌≢◌, List, [], ◌∷◌, length, get_or, take, drop, set, sym, refl, ap, ◌∙◌, subst, le_trans, le_of_eq, le_refl, le_of_suc-le-suc, not-suc-le-zero, add-zero, add-suc, mul-le-mul_right, zero-lt-suc, mul_assoc, suc-mul, mul_comm, add-mul, add-sub_of_le, add_comm, le_antisymm, lt_of_not-le, zero-mul, not-le_of_lt, mul_left_comm, le-add_left, add-one, arith, pow_pos, pow_mono, pow-add, shl_exact, shr-shr}
 use native.Mathlib.Nat.{mul-add-mod_self_left}
 use lib.Arith.{digits_div, digits_mod, digits_lt}
 use lib.Pow.{field, mod-pow-add}
@@ -189,18 +189,22 @@ below_is xs cut h =
     ∙ ap (λ (a : ℕ). a * 2 ^ (64 * i) + n % 2 ^ (64 * i)) (ap (λ (a : ℕ). a % 2 ^ o) (high_limbs xs i h) ∙ low)
     ∙ ap (λ (a : ℕ). x % 2 ^ o * 2 ^ (64 * i) + a) (low_limbs xs i h)
 
+pub not-zero : (a : ℕ) → not (eqb a 0) ≡ ltb 0 a
+not-zero zero = refl
+not-zero (suc a) = ap not (eqb-suc-zero a) ∙ sym (is_true (ltb 0 (suc a)) (lt→ltb 0 (suc a) (zero-lt-suc a)))
+
 -- two numbers that are zero together
-tests : (a b : ℕ) → (a ≡ 0 → b ≡ 0) → (0 < a → 0 < b) → ltb 0 a ≡ ltb 0 b
-tests zero b z p = ap (ltb 0) (sym (z refl))
-tests (suc a) b z p = is_true (ltb 0 (suc a)) (lt→ltb 0 (suc a) (zero-lt-suc a)) ∙ sym (is_true (ltb 0 b) (lt→ltb 0 b (p (zero-lt-suc a))))
+pub alike : (a b : ℕ) → (a ≡ 0 → b ≡ 0) → (0 < a → 0 < b) → ltb 0 a ≡ ltb 0 b
+alike zero b z p = ap (ltb 0) (sym (z refl))
+alike (suc a) b z p = is_true (ltb 0 (suc a)) (lt→ltb 0 (suc a) (zero-lt-suc a)) ∙ sym (is_true (ltb 0 b) (lt→ltb 0 b (p (zero-lt-suc a))))
 
 -- some limb is not zero where the number is not
 pub any_limb : (xs : List ℕ) → list_any (λ x. not (x == 0)) xs ≡ ltb 0 (natural xs)
 unfolding natural
 any_limb [] = refl
-any_limb (zero ∷ xs) = any_limb xs ∙ tests (natural xs) (0 + 2 ^ 64 * natural xs) (λ h. omega arith) (λ h. omega arith)
+any_limb (zero ∷ xs) = any_limb xs ∙ alike (natural xs) (0 + 2 ^ 64 * natural xs) (λ h. omega arith) (λ h. omega arith)
 any_limb (suc x ∷ xs) =
-    ap (λ (b : Bool). not b || list_any (λ y. not (y == 0)) xs) (eqb-suc-zero x)
+    ap (λ (b : Bool). b || list_any (λ y. not (y == 0)) xs) (not-zero (suc x) ∙ is_true (ltb 0 (suc x)) (lt→ltb 0 (suc x) (zero-lt-suc x)))
     ∙ sym (is_true (ltb 0 (suc x + 2 ^ 64 * natural xs)) (lt→ltb 0 (suc x + 2 ^ 64 * natural xs) (omega arith)))
 
 -- ---- the number of bits

@@ -1,10 +1,9 @@
 -- A limb below that of the bit is not zero, or that limb's low bits are not.
-use Rattle.std.proofs.Common.{◌≡◌, ℕ, zero, suc, ◌+◌, ◌*◌, ◌/◌, ◌%◌, ◌^◌, ◌<◌, Bool, not, T, eqb, get_or, take, ltb, sym, refl, ap, ◌∙◌, subst, zero-lt-suc, mul-pos, zero-mul, arith, lt→ltb, ltb→lt, nltb→le, pow_pos}
+use Rattle.std.proofs.Common.{◌≡◌, ℕ, ◌+◌, ◌*◌, ◌/◌, ◌%◌, ◌^◌, ◌<◌, Bool, not, T, eqb, get_or, take, ltb, sym, ap, ◌∙◌, subst, mul-pos, zero-mul, arith, lt→ltb, ltb→lt, nltb→le, pow_pos}
 use Rattle.std.proofs.lemmas.Nat.{one_shl}
-use lib.Dec.{eqb-suc-zero}
 use lib.Ieee.Bits.{is_true}
 use Rattle.readings.specs.Limbs.{natural}
-use Rattle.readings.proofs.Naturals.{any_limb, below_is}
+use Rattle.readings.proofs.Naturals.{not-zero, alike, any_limb, below_is}
 use Rattle.readings.proofs.limbs.Natural.any_below.Goals as goal
 
 pub returns-then-any_set : goal.returns-then-any_set
@@ -18,13 +17,10 @@ returns-then-any_set c =
       answer = c.if-any_set.true ∙ sym (is_true (ltb 0 (natural xs % 2 ^ c.args.cut)) (lt→ltb 0 (natural xs % 2 ^ c.args.cut) some)) ∙ ap (λ (a : ℕ). ltb 0 (a % 2 ^ c.args.cut)) c.self.view_is;
     }
 
--- two numbers that are zero together
-tests : (a b : ℕ) → (a ≡ 0 → b ≡ 0) → (0 < a → 0 < b) → not (eqb a 0) ≡ ltb 0 b
-tests zero b z p = sym (ap (ltb 0) (z refl))
-tests (suc a) b z p = ap not (eqb-suc-zero a) ∙ sym (is_true (ltb 0 b) (lt→ltb 0 b (p (zero-lt-suc a))))
-
 decides : (n d w m : ℕ) → n ≡ d * w + m → m ≡ 0 → 0 < w → not (eqb d 0) ≡ ltb 0 n
-decides n d w m e z W = tests d n
+decides n d w m e z W =
+    not-zero d
+    ∙ alike d n
     (λ h. e ∙ ap (λ (a : ℕ). a * w + m) h ∙ ap (λ (a : ℕ). a + m) (zero-mul w) ∙ ap (λ (a : ℕ). 0 + a) z)
     (λ h. let p = mul-pos h W in omega arith)
 
