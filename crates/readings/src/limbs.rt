@@ -133,9 +133,8 @@ fn subtract(limbs: &mut [u64], other: &[u64]) -> bool
     ensures limits { natural limbs.new < 2 ^ (64 * length limbs.old) }
 {
     let mut borrow = false;
-    // an index loop: two slices go in step, and one is written
-    for i in 0..limbs.len() {
-        (limbs[i], borrow) = limbs[i].borrowing_sub(other[i], borrow);
+    for (i, taken) in other.iter().enumerate() {
+        (limbs[i], borrow) = limbs[i].borrowing_sub(*taken, borrow);
     }
     borrow
 }

@@ -23,7 +23,7 @@ loop-i-preserved c =
 pub returns : goal.returns
 returns c =
     let l = c.loop-i in
-    let e : l.i ≡ length c.args.limbs.now = le_antisymm l.auto.i-end c.loop-i-test.false in
+    let e : l.i ≡ length c.args.limbs.now = le_antisymm l.auto.i-end c.loop-i-test.false ∙ sym c.requires in
     let same : length l.limbs ≡ length c.args.limbs.now = omega arith in
     record {
       value =
