@@ -90,7 +90,7 @@ fn joined(width: Width, dropped: u64, digits: u64) -> u64
 /// The pattern of a size, without a sign. The exponent's field counts the dropped digits; the leading digit adds one to it, and so does a carry
 /// out of the digits.
 pub(crate) fn size_pattern(size: &Natural, width: Width, mode: Mode) -> u64
-    ensures answer { result ≡ size_pattern (format_of width) mode (size.now) }
+    ensures answer { result ≡ size_pattern (format_of width) mode size.now }
 {
     let precision = width.precision();
     let lowest = width.lowest();
