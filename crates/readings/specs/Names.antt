@@ -7,6 +7,8 @@ use Rattle.readings.specs.declared.forms.Width.TheVariants.{Long, Short}
 use Rattle.readings.specs.declared.names.UnknownForm.{UnknownForm}
 use Rattle.readings.specs.declared.names.UnknownForm.TheVariants.{NoDirection, NoWidth}
 
+-- names
+
 abbrev pub direction_name : Direction → List ℕ
 direction_name Nearest = codes "nearest"
 direction_name TowardZero = codes "zero"
@@ -25,6 +27,8 @@ DirectionNamed name (Err e) = (e ≡ NoDirection) × ((d : Direction) → direct
 abbrev pub WidthNamed : List ℕ → Result Width UnknownForm → Type 0
 WidthNamed name (Ok w) = width_name w ≡ name
 WidthNamed name (Err e) = (e ≡ NoWidth) × ((w : Width) → width_name w ≢ name)
+
+-- numbers
 
 abbrev pub direction_number : Direction → ℕ
 direction_number Nearest = 0
@@ -45,6 +49,7 @@ abbrev pub WidthNumbered : ℕ → Result Width UnknownForm → Type 0
 WidthNumbered n (Ok w) = width_number w ≡ n
 WidthNumbered n (Err e) = (e ≡ NoWidth) × (2 ≤ n)
 
+-- what a name or a number that stands for nothing is said to be
 abbrev pub unknown_text : UnknownForm → List ℕ
 unknown_text NoDirection = codes "no direction"
 unknown_text NoWidth = codes "no width"
