@@ -1,7 +1,6 @@
 -- The texts of counts: how far bytes go along them, and which number they write. Assumes nothing.
-use Rattle.std.proofs.Common.{◌≡◌, ℕ, zero, suc, ◌+◌, ◌-◌, ◌*◌, ◌^◌, ◌<◌, ◌≤◌, max, Bool, true, false, cond, not, ◌&&◌, eqb, List, [], ◌∷◌, length, get_or, take, drop, ℤ, pos, negsuc, neg_ℤ, nat_abs, Some, None, decimal, Option, sym, refl, ap, ◌∙◌, subst, inl, inr, zero-add, one-add, arith, lit<, lit≤, w32, SFits, MatchOption}
+use Rattle.std.proofs.Common.{◌≡◌, ℕ, zero, suc, ◌+◌, ◌-◌, ◌*◌, ◌^◌, ◌<◌, ◌≤◌, max, Bool, true, false, cond, not, ◌&&◌, eqb, List, [], ◌∷◌, length, get_or, take, drop, ℤ, pos, negsuc, neg_ℤ, Some, None, decimal, Option, sym, refl, ap, ◌∙◌, subst, inl, inr, zero-add, one-add, arith, lit<, lit≤, w32, SFits, MatchOption}
 use borrow.Author.Differences.{ints}
-use lib.Signed.{lt_z}
 use mir.Val.{bool_byte}
 use Rattle.numbers.specs.Units.{signed as with_sign}
 use Rattle.std.specs.Fmt.{signed_decimal}
@@ -9,7 +8,7 @@ use Rattle.std.specs.Int.{IsInRange}
 use Rattle.std.proofs.lemmas.Fmt.{decimal_digit as decimal_digit_lem, decimal-digits_value, digits_decimal, digits_value-decimal, first_decimal, decimal_nonempty, length-decimal-le}
 use Rattle.std.proofs.lemmas.List.{length-take-le}
 use Rattle.std.proofs.lemmas.Str.Parse.{IsNumeralModel, IsDigitsTest, FoldsDigits, numerals_by_fold, digits_value_short}
-use Rattle.std.proofs.lemmas.Bool.{both_ways, eqb-true, eqb-false, ne_eqb, and_from, not_from_false, ltb-true, lt-ltb, le-ltb, cond-false}
+use Rattle.std.proofs.lemmas.Bool.{both_ways, eqb-true, eqb-false, ne_eqb, and_from, not_from_false, ltb-true, lt-ltb, cond-false}
 use Rattle.std.proofs.lemmas.Bool.Decides.{nat_tests}
 use Rattle.sheets.specs.Digits.{worth, is_digit, AllDigits, begins, run, size_run, number_on, number_of}
 use Rattle.sheets.specs.Elements.{Outside, Within, TextAt, Closed, count_text, count_of, NoCount}
@@ -287,9 +286,3 @@ spelled_count (negsuc n) h = spelled_size true (suc n) (omega arith) (omega (ari
 -- a count of 32 bits is not outside them
 pub inside : (z : ℤ) → SFits w32 z → Outside 32 z → ⊥
 inside z h bad = omega (arith, ints, h.sfits)
-
--- the sign, where the count is below zero, and then its size
-pub sign_text : (z : ℤ) → count_text z ≡ spelled (lt_z z (pos 0)) (decimal (nat_abs z))
-unfolding count_text
-sign_text (pos n) = rw (le-ltb n 0 (omega arith))
-sign_text (negsuc n) = refl

@@ -1,10 +1,9 @@
 -- Digits: how far they run, and the numbers that they write. Assumes nothing.
-use Rattle.std.proofs.Common.{◌≡◌, ℕ, zero, suc, ◌+◌, ◌-◌, ◌*◌, ◌/◌, ◌%◌, ◌^◌, ◌<◌, ◌≤◌, min, Bool, true, false, cond, ltb, ◌⊎◌, List, [], ◌∷◌, ◌++◌, length, get_or, take, drop, decimal, sym, refl, ap, ◌∙◌, subst, inl, inr, append_assoc, add-zero, mul-le-mul_right, mod-lt, mod-eq_of_lt, suc-mul, div-lt_iff_lt-mul, pow-suc, div-add-mod', add-one, arith}
+use Rattle.std.proofs.Common.{◌≡◌, ℕ, zero, suc, ◌+◌, ◌-◌, ◌*◌, ◌/◌, ◌%◌, ◌^◌, ◌<◌, ◌≤◌, min, Bool, true, false, cond, ◌⊎◌, List, [], ◌∷◌, ◌++◌, length, get_or, take, drop, sym, refl, ap, ◌∙◌, subst, inl, inr, append_assoc, add-zero, mul-le-mul_right, mod-lt, mod-eq_of_lt, suc-mul, div-lt_iff_lt-mul, pow-suc, div-add-mod', add-one, arith}
 use native.Mathlib.Nat.{pow-zero, div-eq_of_lt, mul-add-div_right, mul-add-mod_self_right}
-use Rattle.std.proofs.lemmas.List.{drop_more, drop_all, take_more, take_all, length_push, length-take-le, nil_from_length}
-use Rattle.std.proofs.lemmas.Bool.{cases_lt, cond-true, lt-ltb, ltb-true}
+use Rattle.std.proofs.lemmas.List.{drop_more, drop_all, take_more, take_all, length-take-le, nil_from_length}
+use Rattle.std.proofs.lemmas.Bool.{cases_lt, lt-ltb, ltb-true}
 use Rattle.std.proofs.lemmas.Bool.Decides.{nat_tests}
-use Rattle.std.proofs.lemmas.Fmt.{decimal_by_steps}
 use Rattle.sheets.specs.Digits.{worth, digit_byte, is_digit, AllDigits, run, number_on, number_of, last_digits}
 
 -- a run, one digit on
@@ -70,24 +69,6 @@ run-within radix (suc most) (b ∷ bs) = go (is_digit radix b) (run-within radix
 pub last_more : (radix m n : ℕ) (ds : List ℕ) → last_digits radix (suc m) n ++ ds ≡ last_digits radix m (n / radix) ++ (digit_byte (n % radix) ∷ ds)
 unfolding last_digits
 last_more radix m n ds = append_assoc (last_digits radix m (n / radix)) (digit_byte (n % radix) ∷ []) ds
-
--- as many last digits as the decimal text has are that text
-pub decimal_last : (n : ℕ) → n < 2 ^ 64 → last_digits 10 (length (decimal n)) n ≡ decimal n
-unfolding last_digits
-decimal_last n h = decimal_by_steps (λ k ds. last_digits 10 (length ds) k ≡ ds) first more n h
-  where
-    first : (k : ℕ) → k < 10 → last_digits 10 1 k ≡ (48 + k) ∷ []
-    first k l =
-        let e : k % 10 ≡ k = omega arith in
-        let d : digit_byte k ≡ 48 + k = cond-true (ltb k 10) (48 + k) (87 + k) (lt-ltb k 10 l) in
-        ap (λ j. j ∷ []) (ap digit_byte e ∙ d)
-
-    more : (k : ℕ) (ds : List ℕ) → 10 ≤ k → last_digits 10 (length ds) (k / 10) ≡ ds → last_digits 10 (length (ds ++ ((48 + k % 10) ∷ []))) k ≡ ds ++ ((48 + k % 10) ∷ [])
-    more k ds l e =
-        let len : length (ds ++ ((48 + k % 10) ∷ [])) ≡ suc (length ds) = length_push ds (48 + k % 10) ∙ add-one (length ds) in
-        let small : k % 10 < 10 = omega arith in
-        let d : digit_byte (k % 10) ≡ 48 + k % 10 = cond-true (ltb (k % 10) 10) (48 + k % 10) (87 + k % 10) (lt-ltb (k % 10) 10 small) in
-        rw (len, e, d)
 
 -- a digit and its byte
 pub worth-byte : (d : ℕ) → d < 16 → worth (digit_byte d) ≡ d
