@@ -55,6 +55,7 @@ impl Splitter {
     /// The line that it holds, or its first 40 bytes.
     pub fn line(&self) -> &[u8]
         ensures bytes { result.now ≡ held self.now }
+        ensures limits { length result.now ≤ 40 }
     {
         self.bytes.as_slice()
     }
@@ -89,6 +90,7 @@ impl Splitter {
         ensures after { self.new.complete ≡ false }
     {
         if self.complete {
+            // not clear(), which goes over the line byte by byte
             self.bytes = ArrayVec::new();
             self.number = self.number.saturating_add(1);
             self.complete = false;

@@ -45,6 +45,7 @@ impl Text {
     {
         let mut digits = [0; PATTERN_DIGITS];
         let mut left = pattern;
+        // by place, the last first: a digit is known by those that stand behind it
         for at in (0..PATTERN_DIGITS).rev() {
             digits[at] = digit_byte((left % 16) as u8);
             left /= 16;
