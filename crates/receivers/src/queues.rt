@@ -18,7 +18,7 @@ const UP_LONG: Form = Form {
 };
 
 /// 2^53 × 1, 1 × 1 and 3 × 5, a refused batch, and −9 withdrawn by a line.
-const FIRST_EARLY: [Call<'static>; 4] = [
+const EARLY_CALLS: [Call<'static>; 4] = [
     Call::Take(
         Elements::Patterns(&[0x4340_0000_0000_0000, 0x3ff0_0000_0000_0000]),
         Elements::Counts(&[1, 1]),
@@ -29,7 +29,7 @@ const FIRST_EARLY: [Call<'static>; 4] = [
 ];
 
 /// Two calls with several faults each, −2^-484 × 2^-484, and 2^53 taken once more and withdrawn.
-const FIRST_LATE: [Call<'static>; 5] = [
+const LATE_CALLS: [Call<'static>; 5] = [
     Call::Take(
         Elements::Patterns(&[0x3ff0_0000_0400_0000, 0x7ff8_0000_0000_0000]),
         Elements::Counts(&[67_108_865, 1]),
@@ -46,17 +46,18 @@ const FIRST_LATE: [Call<'static>; 5] = [
     ),
 ];
 
+const EARLY: Leg<'static> = Leg {
+    calls: &EARLY_CALLS,
+    readings: &[NEAREST_LONG, DOWN_SHORT],
+};
+
+const LATE: Leg<'static> = Leg {
+    calls: &LATE_CALLS,
+    readings: &[UP_LONG],
+};
+
 /// The first receiver's queue.
-pub const FIRST: [Leg<'static>; 2] = [
-    Leg {
-        calls: &FIRST_EARLY,
-        readings: &[NEAREST_LONG, DOWN_SHORT],
-    },
-    Leg {
-        calls: &FIRST_LATE,
-        readings: &[UP_LONG],
-    },
-];
+pub const FIRST: [Leg<'static>; 2] = [EARLY, LATE];
 
 /// The same products in another order, other batches and other kinds.
 const SECOND_CALLS: [Call<'static>; 5] = [
@@ -90,14 +91,8 @@ const MORE: [Call<'static>; 1] = [Call::Take(
 
 /// The first receiver's queue with one product above zero more.
 pub const FIRST_WITH_MORE: [Leg<'static>; 3] = [
-    Leg {
-        calls: &FIRST_EARLY,
-        readings: &[NEAREST_LONG, DOWN_SHORT],
-    },
-    Leg {
-        calls: &FIRST_LATE,
-        readings: &[UP_LONG],
-    },
+    EARLY,
+    LATE,
     Leg {
         calls: &MORE,
         readings: &[],
