@@ -18,11 +18,9 @@ fn main(rt: HostRuntime) -> anyhow::Result<()> {
     let text = io::read_to_string(rt.alloc(), rt.stdin())?;
     let mut out = BufWriter::new(rt.alloc(), rt.stdout())?;
     let mut player = Player::Idle;
-    for line in text.as_str().lines() {
-        if !is_remark(line) {
-            let reply = reply_to(&mut player, rt.alloc(), line)?;
-            writeln!(out, "{reply}")?;
-        }
+    for line in text.as_str().lines().filter(|line| !is_remark(line)) {
+        let reply = reply_to(&mut player, rt.alloc(), line)?;
+        writeln!(out, "{reply}")?;
     }
     out.flush()?;
     Ok(())
@@ -30,7 +28,7 @@ fn main(rt: HostRuntime) -> anyhow::Result<()> {
 
 /// Whether a line is empty or a remark, which has no answer.
 fn is_remark(line: &str) -> bool {
-    line.is_empty() || line.starts_with("#")
+    line.is_empty() || line.starts_with('#')
 }
 
 /// Makes the step that a line writes.
