@@ -48,6 +48,7 @@ pub(crate) fn read_list<T: Drop, F: Fn(&str) -> Result<T, ReadError>>(
     if list.is_empty() {
         return Ok(Vec::new(heap));
     }
+    // a closure: whether `read` itself may be called at each piece is not proved
     list.split(',').map(|text| read(text)).try_collect(heap)
 }
 

@@ -11,6 +11,7 @@ fn main(rt: HostRuntime) -> anyhow::Result<()> {
     let mut out = BufWriter::new(rt.alloc(), rt.stdout())?;
     let mut input = rt.stdin();
     let mut chunk = [0u8; 65536];
+    // a bound, since every loop has to end: no input has as many parts
     for _ in 0..u64::MAX {
         let part = read_part(&mut input, &mut chunk)?;
         if part.is_empty() {
