@@ -1,8 +1,8 @@
 -- Lines: the answer of the line reader is what the text says. Assumes nothing.
-use Rattle.std.proofs.Common.{◌≡◌, ℕ, ◌+◌, ◌^◌, ◌<◌, ◌≤◌, Bool, true, false, cond, not, ◌&&◌, ◌||◌, T, eqb, leb, ◌⊎◌, List, [], ◌∷◌, ◌++◌, length, drop, ℤ, pos, neg_ℤ, Err, codes, sym, refl, ap, ◌∙◌, subst, ap₂, inl, inr, le_antisymm, arith, w32, SFits}
+use Rattle.std.proofs.Common.{◌≡◌, ℕ, ◌+◌, ◌^◌, ◌<◌, ◌≤◌, Bool, true, false, cond, ◌||◌, T, eqb, leb, ◌⊎◌, List, [], ◌∷◌, ◌++◌, length, drop, ℤ, pos, neg_ℤ, Err, codes, sym, refl, ap, ◌∙◌, subst, ap₂, inl, inr, le_antisymm, arith, w32, SFits}
 use lib.Ieee.Bits.{is_true}
 use lib.Signed.{lt_z, le_z}
-use Rattle.std.proofs.lemmas.Bool.{eq-eqb, ne_eqb, eqb-true, le-leb, lt-leb, cond-true, cond-false, and_parts, and_from, or_left, or_right, or_cases, cases_lt, both_ways, not-true, false≢true}
+use Rattle.std.proofs.lemmas.Bool.{eq-eqb, eqb-true, le-leb, lt-leb, cond-true, cond-false, and_parts, and_from, or_left, or_right, or_cases, cases_lt, false≢true}
 use Rattle.numbers.specs.declared.refusal.Refusal.{Refusal}
 use Rattle.numbers.specs.Counts.{count_value}
 use Rattle.numbers.specs.Patterns.{pattern_value}
@@ -12,62 +12,17 @@ use Rattle.sheets.specs.declared.line.Word.{Word}
 use Rattle.sheets.specs.declared.line.Word.TheVariants.{Add, Sub}
 use Rattle.sheets.specs.Digits.{number_of}
 use Rattle.sheets.specs.Elements.{Outside, count_of, pattern_text, count_text}
-use Rattle.sheets.specs.Forms.{Class, Form, end, one, either, Lang, Astray, reach}
+use Rattle.sheets.specs.Forms.{Form, Lang, Astray, reach}
 use Rattle.sheets.specs.Lines.{word_text, line_text, field_text, place_of, Parts, OutOfRange, IsLine, ReadsLine}
-use Rattle.sheets.specs.Shapes.{pattern_shape, size_shape, count_shape, field_shape, pair_shape, line_shape}
+use Rattle.sheets.specs.Shapes.{pair_shape, line_shape}
 use Rattle.sheets.proofs.Forms.{reach_le, lang_reach, reach_lang, astray}
 use Rattle.sheets.proofs.Counted.{spelled_count}
 use Rattle.sheets.proofs.Numerals.{number-last}
+use Rattle.sheets.proofs.Trips.{NoTab, field_on, field_no_tab}
 use Rattle.runs.specs.Calls.{misread, product}
 use Rattle.runs.specs.Lines.{before_tab, behind_tab, field_value, field_out, withdraws, is_sub, line_reading}
 
--- one form and then another
-
-infixr 20 ◌⊕◌
-◌⊕◌ : Form → Form → Form
-end ⊕ rest = rest
-one c f ⊕ rest = one c (f ⊕ rest)
-either f g ⊕ rest = either (f ⊕ rest) (g ⊕ rest)
-
-lang_join : (f rest : Form) (t r : List ℕ) → Lang f t → Lang rest r → Lang (f ⊕ rest) (t ++ r)
-unfolding ◌⊕◌
-lang_join end rest [] r h k = k
-lang_join end rest (b ∷ bs) r h k = absurd h
-lang_join (one c f) rest [] r h k = absurd h
-lang_join (one c f) rest (b ∷ bs) r h k = (h.0, lang_join f rest bs r h.1 k)
-lang_join (either f g) rest t r (inl h) k = inl (lang_join f rest t r h k)
-lang_join (either f g) rest t r (inr h) k = inr (lang_join g rest t r h k)
-
-field_on : (rest : Form) (t r : List ℕ) → Lang (field_shape end) t → Lang rest r → Lang (field_shape rest) (t ++ r)
-unfolding ◌⊕◌ field_shape pattern_shape count_shape size_shape
-field_on rest t r h k = lang_join (field_shape end) rest t r h k
-
--- a field has no tab
-
-lacks : ℕ → Form → Bool
-lacks b end = true
-lacks b (one c f) = not (c.holds b) && lacks b f
-lacks b (either f g) = lacks b f && lacks b g
-
-abbrev NoTab : List ℕ → Type 0
-NoTab [] = Unit {0}
-NoTab (b ∷ bs) = (eqb b 9 ≡ false) × NoTab bs
-
-apart : (c : Class) (b : ℕ) → c.holds b ≡ true → not (c.holds 9) ≡ true → eqb b 9 ≡ false
-apart c b h n = ne_eqb b 9 (λ e. both_ways (c.holds 9) (not-true (c.holds 9) n) (ap (λ (x : ℕ). c.holds x) (sym e) ∙ h))
-
-no_tab : (f : Form) (t : List ℕ) → lacks 9 f ≡ true → Lang f t → NoTab t
-unfolding lacks
-no_tab end [] l h = tt
-no_tab end (b ∷ bs) l h = absurd h
-no_tab (one c f) [] l h = absurd h
-no_tab (one c f) (b ∷ bs) l h = let p = and_parts (not (c.holds 9)) (lacks 9 f) l in (apart c b h.0 p.0, no_tab f bs p.1 h.1)
-no_tab (either f g) t l (inl h) = no_tab f t (and_parts (lacks 9 f) (lacks 9 g) l).0 h
-no_tab (either f g) t l (inr h) = no_tab g t (and_parts (lacks 9 f) (lacks 9 g) l).1 h
-
-field_no_tab : (t : List ℕ) → Lang (field_shape end) t → NoTab t
-unfolding lacks field_shape pattern_shape count_shape size_shape
-field_no_tab t h = no_tab (field_shape end) t refl h
+-- the bytes before and behind a tab
 
 before_tab_lem : (t r : List ℕ) → NoTab t → before_tab (t ++ (9 ∷ r)) ≡ t
 before_tab_lem [] r h = refl
