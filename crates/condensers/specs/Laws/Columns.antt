@@ -222,6 +222,12 @@ module _ (P R : ℕ) (short : P ≤ 2 ^ 52) where
   unfolding moved
   moved-whole = mod-eq_of_lt (lt_of_lt_of_le moved-short (lit≤ tt))
 
+  pub third_fits : P * 2 ^ (R % 32) % 2 ^ 128 / 2 ^ 32 / 2 ^ 32 < 2 ^ 32
+  third_fits = subst (λ (n : ℕ). n / 2 ^ 32 / 2 ^ 32 < 2 ^ 32) (sym moved-whole) (cut moved moved-short)
+    where
+      cut : (n : ℕ) → n < 2 ^ 84 → n / 2 ^ 32 / 2 ^ 32 < 2 ^ 32
+      cut n h = omega arith
+
   -- where the columns end, the third part is nothing
   pub third_nothing : R ≤ 1990 → R / 32 ≡ 62 → P * 2 ^ (R % 32) % 2 ^ 128 / 2 ^ 32 / 2 ^ 32 ≡ 0
   unfolding moved

@@ -91,3 +91,12 @@ stands-within ss k r l e = record {
   past_sign = λ g. absurd (not-le_of_lt l g);
   past_exponent = λ g. absurd (not-le_of_lt l g);
 }
+
+pub stands_past : (ss : List Summand) (k : ℕ) (r : Summand) → length ss ≤ k → r ≡ summand_at false 0 0 → StandsAt ss k r
+unfolding summand_at
+stands_past ss k r g e = record {
+  within = λ l. absurd (not-le_of_lt l g);
+  past_size = λ _. ap (λ (x : Summand). x.significand) e;
+  past_sign = λ _. ap (λ (x : Summand). x.negative) e;
+  past_exponent = λ _. ap (λ (x : Summand). x.exponent) e;
+}
