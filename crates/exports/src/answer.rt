@@ -5,6 +5,7 @@ ghost use Rattle.exports.specs.Answers.{told, unformed};
 use numbers::refusal::Refusal;
 
 /// A value where `code` is 0, and else the code, the place and the side of a refusal.
+// numbers and no Result: C reads them
 #[repr(C)]
 #[derive(Clone, Copy, PartialEq, Eq, Debug)]
 pub struct Answer {

@@ -11,6 +11,7 @@ use readings::forms::Form;
 use runs::run::Open;
 
 /// The sum of the products of two slices, of any two kinds, in the form with those numbers.
+// the form by its numbers: C hands them in
 pub fn total_dot<K: Kind, L: Kind>(
     firsts: &[K::Element],
     seconds: &[L::Element],

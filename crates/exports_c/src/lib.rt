@@ -6,6 +6,7 @@ ghost use Rattle.numbers.specs.Counts.{count_value};
 ghost use Rattle.numbers.specs.Patterns.{pattern_value};
 ghost use Rattle.exports.specs.Answers.{Dot, Report};
 
+// a function for each pair of kinds: C has no generic ones
 use exports::answer::Answer;
 use exports::dot::total_dot;
 use exports::sheet;

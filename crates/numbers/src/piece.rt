@@ -16,6 +16,7 @@ pub struct Piece {
 }
 
 /// The number ±significand × 2^exponent that a condenser hands out, at most 2^1006 in size.
+// not one struct with Piece and Factor: each has limits of its own, and a struct has one invariant
 #[derive(Clone, Copy, PartialEq, Eq, Debug)]
 pub struct Summand {
     pub negative: bool,

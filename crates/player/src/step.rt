@@ -32,6 +32,7 @@ impl FromStr for Table {
 }
 
 /// A slice of elements of one kind.
+// beside the library's Elements: this one owns what that one lends
 #[derive(Drop)]
 pub enum Elements {
     Patterns(Vec<u64>),

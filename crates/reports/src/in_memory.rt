@@ -59,6 +59,7 @@ fn append_refused(refused: Option<RefusedLine>, out: &mut [u8], end: usize) -> u
 }
 
 /// Puts the report of the sum behind the bytes before `end`.
+// not one function with append_refused: over a closure the contract would be longer than both bodies
 fn append_total<C: Condenser + Drop>(run: &Sealed<C>, out: &mut [u8], end: usize) -> usize
     ensures after { Totalled (C.Condenser.total run.now.condenser) (C.Condenser.count run.now.condenser) out.old end out.new result }
 {

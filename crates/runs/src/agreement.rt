@@ -41,6 +41,7 @@ impl<C: Condenser + Drop> Sealed<C> {
 /// Plays two queues, each over a condenser of its own make, and reads both totals in a direction.
 /// Where every number has the same net count in both bags, both readings are the same bits. Where the first bag has at least as many of every number
 /// above zero and as many of every number below, the first reading is not below the second.
+// no struct for a condenser, its queue and its buffer: a contract names what such a struct holds by position alone
 pub fn compare_queues<C: Condenser + Drop, D: Condenser + Drop>(
     first: C,
     first_queue: &[Leg],

@@ -12,6 +12,8 @@ use numbers::kind::Kind;
 use numbers::refusal::Refusal;
 
 impl<C: Condenser + Drop> Open<C> {
+    // two slices and not one of pairs: each is lent as its caller has it, of any kind, and may differ in length
+    // two calls, each with its name; the text of both is `enter_products`
     /// Takes the product of each index, or refuses and changes nothing.
     pub fn take<K: Kind, L: Kind>(
         &mut self,

@@ -8,6 +8,7 @@ use numbers::piece::Piece;
 use sheets::line::Word;
 
 /// The two ways in which a product enters.
+// an enum and no closure: the calls of a queue and the words of lines choose between the two as data
 #[derive(Clone, Copy, PartialEq, Eq, Debug)]
 pub(crate) enum Entering {
     Taken,

@@ -10,6 +10,7 @@ use condensers::condenser::Condenser;
 use readings::forms::Form;
 
 /// Writes an answer at `next` where that lies in the buffer, and gives the place behind it.
+// the place is counted: it stops at the end of the buffer, however many calls there are
 fn note(answers: &mut [Answer], next: usize, answer: Answer) -> usize
     ensures after { answers.new ≡ slice_set answers.old next answer }
     ensures answer { result ≡ (if nat_lt next (length answers.old) then next + 1 else next) }

@@ -7,6 +7,7 @@ pub enum Word {
 }
 
 /// A field of a line: the text of its element behind the letter, the place of the letter in the line, and the element.
+// each variant has all of a field: the element's type is that of its kind
 #[derive(Clone, Copy, Debug)]
 pub enum Field<'a> {
     Pattern {

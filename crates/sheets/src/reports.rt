@@ -7,6 +7,7 @@ use crate::text::Text;
 use numbers::refusal::Refusal;
 
 /// Writes `no`, line, code and place, parted by tabs, with a line feed.
+// numbers and no Refusal: a caller may report numbers that no refusal has
 pub fn write_refused(line: u64, code: u64, place: u64, out: &mut [u8]) -> Result<usize, Refusal>
     ensures answer { Fits (refused_report line code place) (length out.old) result }
     ensures bytes { out.new ≡ handed (refused_report line code place) out.old }
@@ -24,6 +25,7 @@ pub fn write_sum(pattern: u64, products: u64, out: &mut [u8]) -> Result<usize, R
     text.copy_to(out)
 }
 
+// not formatted by write!, whose promise leaves open whether all was written
 fn refused_text(line: u64, code: u64, place: u64) -> Text
     ensures bytes { text_of result ≡ refused_report line code place }
 {

@@ -4,6 +4,7 @@ mod feed;
 use arrayvec::ArrayVec;
 
 /// A line under way or at its end: its first 40 bytes, its number, and whether its line feed has come.
+// a flag and no type for each state: one splitter serves a whole sheet
 #[derive(Drop)]
 pub struct Splitter {
     bytes: ArrayVec<u8, 40>,
