@@ -1,8 +1,9 @@
 -- The rounding that can be computed is the rounding that IEEE 754 describes, in every direction, for each total that is not above the format's largest number. Assumes nothing.
-use Rattle.std.proofs.Common.{◌≡◌, ℕ, zero, suc, ◌+◌, ◌-◌, ◌*◌, ◌^◌, ◌<◌, ◌≤◌, Bool, true, false, cond, leb, ◌⊎◌, ℤ, pos, negsuc, neg_ℤ, nat_abs, ◌≤ℤ◌, sym, refl, ap, ◌∙◌, subst, inl, inr, le_trans, le_of_eq, add-mul, mul-pos, arith, lit≤}
+use Rattle.std.proofs.Common.{◌≡◌, ℕ, suc, ◌+◌, ◌-◌, ◌*◌, ◌^◌, ◌<◌, ◌≤◌, Bool, true, false, cond, leb, ◌⊎◌, ℤ, pos, negsuc, neg_ℤ, nat_abs, ◌≤ℤ◌, sym, refl, ap, ◌∙◌, subst, inl, inr, le_trans, le_of_eq, add-mul, mul-pos, arith, lit≤}
 use borrow.Author.Differences.{ints}
 use lib.Ieee.{Format, binary32, binary64, prec, hid, ones, top}
 use Rattle.numbers.specs.Units.{signed}
+use Rattle.numbers.proofs.Window.{size-signed}
 use Rattle.readings.specs.declared.forms.Direction.{Direction}
 use Rattle.readings.specs.declared.forms.Direction.TheVariants.{Nearest, TowardZero, Up, Down}
 use Rattle.readings.specs.Formats.{Encodes, lowest, largest}
@@ -92,11 +93,6 @@ by_sign false true n m = inr (apart_plus n m)
 by_sign true false n m = inr (apart_minus n m)
 by_sign true true n m = inl (apart-same true n m)
 
-pub size_of : (s : Bool) (m : ℕ) → nat_abs (signed s m) ≡ m
-size_of false m = refl
-size_of true zero = refl
-size_of true (suc m) = refl
-
 none_nearer : (f : Format) (s : Bool) (n a : ℕ) → NearTo f n a → NoneNearer f (signed s n) (signed s a)
 none_nearer f s n a r c w e =
     let z = sized f c w e in
@@ -118,7 +114,7 @@ tie-taken f s n a b r t c w e d =
     let same : gap n a ≡ distance (signed s n) (signed z.0 m) = sym (apart-same s n a) ∙ d ∙ ap (distance (signed s n)) z.1.1 in
     let zero : gap n a ≤ n = near_zero f n a r in
     let size : m ≤ a = elim (by_sign s z.0 n m) [ inl i ↦ t z.1.0 (same ∙ i) | inr i ↦ omega arith ] in
-    preferred b (signed s a) c w (subst (λ (v : ℤ). nat_abs v ≤ nat_abs (signed s a)) (sym z.1.1) (le_trans (le_of_eq (size_of z.0 m)) (le_trans size (le_of_eq (sym (size_of s a))))))
+    preferred b (signed s a) c w (subst (λ (v : ℤ). nat_abs v ≤ nat_abs (signed s a)) (sym z.1.1) (le_trans (le_of_eq (size-signed z.0 m)) (le_trans size (le_of_eq (sym (size-signed s a))))))
 
 -- ---- every direction
 

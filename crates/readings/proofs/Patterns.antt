@@ -151,7 +151,7 @@ pub record Found (f : Format) (b : ℕ) (v : ℤ) : Type 0 where
   pub finite : place < places f
   pub value : v ≡ signed sign (grid_size f place)
 
-some_same : (v w : ℤ) → ◌≡◌ {A = Option ℤ} (Some v) (Some w) → v ≡ w
+pub some_same : (v w : ℤ) → ◌≡◌ {A = Option ℤ} (Some v) (Some w) → v ≡ w
 some_same v w e = cc
 
 none-some : (v : ℤ) → ◌≡◌ {A = Option ℤ} None (Some v) → ⊥

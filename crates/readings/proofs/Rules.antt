@@ -1,5 +1,5 @@
 -- The laws of rounding, proved once for all directions and both formats. Assumes nothing.
-use Rattle.std.proofs.Common.{◌≡◌, ℕ, suc, ◌+◌, ◌*◌, ◌^◌, ◌<◌, ◌≤◌, Bool, true, false, cond, leb, ℤ, pos, negsuc, nat_abs, ◌≤ℤ◌, ◌<ℤ◌, Some, Ok, Err, Option, Result, sym, refl, ap, ◌∙◌, subst, inl, inr, le_trans, le_of_eq, lt_of_lt_of_le, lt_irrefl, mul-le-mul_right, le_antisymm, one-mul, arith, lit≤}
+use Rattle.std.proofs.Common.{◌≡◌, ℕ, suc, ◌+◌, ◌*◌, ◌^◌, ◌<◌, ◌≤◌, Bool, true, false, cond, leb, ℤ, pos, negsuc, nat_abs, ◌≤ℤ◌, ◌<ℤ◌, Some, Ok, Err, Result, sym, refl, ap, ◌∙◌, subst, inl, inr, le_trans, le_of_eq, lt_of_lt_of_le, lt_irrefl, mul-le-mul_right, le_antisymm, one-mul, arith, lit≤}
 use borrow.Author.Differences.{ints}
 use lib.Arith.{digits_lt}
 use lib.Signed.{clash_ℤ}
@@ -17,14 +17,11 @@ use Rattle.readings.specs.Rounding.{LeastAbove, GreatestBelow, distance, Preferr
 use Rattle.readings.specs.Laws.{SubnormalValue, NormalValue, AtMostOne, KeepsOrder, Exact, UpLaw, DownLaw, TowardZeroLaw, NearestLaw, TieLaw, ZeroLaw, SameAnswer, OneAnswer, RoundingLaws}
 use Rattle.readings.proofs.Cases.{lt_or_ge}
 use Rattle.readings.proofs.Grid.{magnitude_low, magnitude_field}
-use Rattle.readings.proofs.Patterns.{grid_size, places_lt, place-encodes, place-value, found, sign_of}
+use Rattle.readings.proofs.Patterns.{grid_size, places_lt, place-encodes, place-value, found, sign_of, some_same}
 use Rattle.readings.proofs.Sizes.{grid_lt, grid_zero}
 use Rattle.readings.proofs.Directions.{places_pos, two_ones, rounded-rounds}
 
 -- ---- a pattern has one value, and a value and a sign one pattern
-
-some_same : (v w : ℤ) → ◌≡◌ {A = Option ℤ} (Some v) (Some w) → v ≡ w
-some_same v w e = cc
 
 pub one_value : (f : Format) (b : ℕ) (v w : ℤ) → Encodes f b v → Encodes f b w → v ≡ w
 one_value f b v w e g = some_same v w (sym e.value ∙ g.value)

@@ -4,6 +4,7 @@ use lib.Arith.{le→nltb, lt→nleb}
 use lib.Ieee.{Format, binary32, binary64, top}
 use lib.Ieee.Bits.{is_true, is_false}
 use Rattle.numbers.specs.Units.{signed, rank}
+use Rattle.numbers.proofs.Window.{size-signed}
 use Rattle.readings.specs.declared.forms.Direction.{Direction}
 use Rattle.readings.specs.Formats.{Encodes, largest}
 use Rattle.readings.specs.Readings.{short_limit}
@@ -15,7 +16,7 @@ use Rattle.readings.proofs.Cases.{lt_or_ge}
 use Rattle.readings.proofs.Grid.{magnitude, magnitude_of}
 use Rattle.readings.proofs.Patterns.{grid_size, split, places_lt, mod_of, place-encodes, found}
 use Rattle.readings.proofs.Sizes.{grid_le, grid_lt, grid_zero}
-use Rattle.readings.proofs.Directions.{size_of, place_finite}
+use Rattle.readings.proofs.Directions.{place_finite}
 use Rattle.readings.proofs.Rules.{one_value, one-pattern}
 
 -- ---- limits
@@ -77,7 +78,7 @@ pub rounded_by : (f : Format) (d : Direction) (b : Bool) (n : ℕ) → (n ≡ 0 
 unfolding rounded
 rounded_by f d b n h =
     ap (λ (s : Bool). cond s (top f) 0 + size_pattern f (mode_of d s) (nat_abs (signed b n))) (sign-value b n h)
-    ∙ ap (λ (a : ℕ). cond b (top f) 0 + size_pattern f (mode_of d b) a) (size_of b n)
+    ∙ ap (λ (a : ℕ). cond b (top f) 0 + size_pattern f (mode_of d b) a) (size-signed b n)
 
 top_le : (f : Format) → top f ≤ 2 ^ 63
 top_le binary32 = lit≤ tt
@@ -109,7 +110,7 @@ strict b m e = go (lt_or_ge b (2 ^ 63)) (eq-or-lt_of_le)
         let q : ltb (2 ^ 63) b ≡ false = ap (ltb (2 ^ 63)) (sym i) in
         let v : signed true m ≡ signed true (grid_size binary64 0) =
         one_value binary64 b (signed true m) (signed true (grid_size binary64 0)) (subst (λ (s : Bool). Encodes binary64 b (signed s m)) p e) (subst (λ (a : ℕ). Encodes binary64 a (signed true (grid_size binary64 0))) i (place-encodes binary64 true 0 (lit< tt))) in
-        let z : m ≡ 0 = sym (size_of true m) ∙ ap nat_abs v ∙ size_of true (grid_size binary64 0) ∙ grid_zero binary64 in
+        let z : m ≡ 0 = sym (size-signed true m) ∙ ap nat_abs v ∙ size-signed true (grid_size binary64 0) ∙ grid_zero binary64 in
         (ap (λ (s : Bool). signed s m) p ∙ ap (λ (a : ℕ). signed true a) z ∙ sym (ap (λ (s : Bool). signed s m) q ∙ ap (λ (a : ℕ). signed false a) z), λ k. q)
 
     above : 2 ^ 63 < b → Strict b m
@@ -132,4 +133,4 @@ too_large b v e h =
     let r : b % 2 ^ 63 ≡ g.place = ap (λ (a : ℕ). a % 2 ^ 63) g.is ∙ mod_of binary64 g.sign g.place (places_lt binary64 g.place g.finite) in
     let l : largest binary32 < grid_size binary64 g.place =
     subst (λ (a : ℕ). a < grid_size binary64 g.place) short-place (grid_lt binary64 0x47ef_ffff_e000_0000 g.place (subst (λ (a : ℕ). 0x47ef_ffff_e000_0000 < a) r h)) in
-    subst (λ (a : ℕ). a < nat_abs v) (sym short_limit_lem) (subst (λ (a : ℕ). largest binary32 < a) (sym (ap nat_abs g.value ∙ size_of g.sign (grid_size binary64 g.place))) l)
+    subst (λ (a : ℕ). a < nat_abs v) (sym short_limit_lem) (subst (λ (a : ℕ). largest binary32 < a) (sym (ap nat_abs g.value ∙ size-signed g.sign (grid_size binary64 g.place))) l)

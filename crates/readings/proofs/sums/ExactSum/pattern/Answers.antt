@@ -1,12 +1,13 @@
 -- The sign bit goes before the pattern of the size, and the whole is the rounding.
 use Rattle.std.proofs.Common.{◌≡◌, ℕ, ◌+◌, ◌^◌, ◌<◌, ◌≤◌, cond, nat_abs, sym, ap, ◌∙◌, subst, le_trans, le_of_eq}
 use lib.Ieee.{top}
+use Rattle.numbers.proofs.Window.{size-signed}
 use Rattle.readings.specs.Formats.{format_of, largest}
 use Rattle.readings.specs.Rounded.{size_pattern, rounded}
 use Rattle.readings.specs.Rounding.{Rounds}
 use Rattle.readings.specs.Sums.{sum_value}
 use Rattle.readings.specs.declared.rounding.Mode.{Mode}
-use Rattle.readings.proofs.Directions.{rounded-rounds, size_of}
+use Rattle.readings.proofs.Directions.{rounded-rounds}
 use Rattle.readings.proofs.Widths.{rounded_by, signed_fits}
 use Rattle.readings.proofs.sums.ExactSum.pattern.Goals as goal
 
@@ -21,7 +22,7 @@ returns c =
     let s = c.args.self.now in
     let d = c.args.direction in
     let n = s.size in
-    let small : nat_abs (sum_value s) ≤ largest f = le_trans (le_of_eq (size_of s.negative n)) c.requires in
+    let small : nat_abs (sum_value s) ≤ largest f = le_trans (le_of_eq (size-signed s.negative n)) c.requires in
     let is : c.with_sign.result ≡ rounded f d (sum_value s) =
     c.with_sign.ensures.answer
     ∙ ap (λ (a : ℕ). cond s.negative (top f) 0 + a) (c.size_pattern-size.ensures.answer ∙ ap (λ (m : Mode). size_pattern f m n) c.size_mode.ensures.answer)
