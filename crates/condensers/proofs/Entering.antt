@@ -56,6 +56,11 @@ module _ {t : List Float} {n : ℕ} {x : Float} {k : ℕ} (w : Turn t n x k) whe
   unfolding held
   held-stands = subst (λ (m : ℕ). T (stands m (get_or t k nan))) (zero-add k) (stands_at 0 t k w.standing inside)
 
+  -- what stands at the place is finite
+  pub held-finite : field_of (to_bits binary64 (get_or t k nan)) < 2047
+  unfolding held
+  held-finite = standing_field k (get_or t k nan) held-stands
+
   -- ---- the place is empty, and then holds x
 
   module _ (v : List Float) (is : v ≡ set t k x) where
@@ -89,7 +94,7 @@ module _ {t : List Float} {n : ℕ} {x : Float} {k : ℕ} (w : Turn t n x k) whe
   module _ (occupied : eq (get_or t k nan) (of_bits binary64 0) ≡ false) where
     occupies : float_units (get_or t k nan) ≢ pos 0
     unfolding held
-    occupies = nonzero_test (get_or t k nan) (standing_fits k (get_or t k nan) held-stands) (standing_field k (get_or t k nan) held-stands) occupied
+    occupies = nonzero_test (get_or t k nan) (standing_fits k (get_or t k nan) held-stands) held-finite occupied
 
     pub one_place : place_of x ≡ place_of (get_or t k nan)
     unfolding held
@@ -143,7 +148,6 @@ module _ {t : List Float} {n : ℕ} {x : Float} {k : ℕ} (w : Turn t n x k) whe
 -- what lasts from turn to turn, since the number x₀ entered the table t₀ of count n₀
 pub record OnWay (t₀ : List Float) (n₀ : ℕ) (x₀ : Float) (t : List Float) (n : ℕ) (x : Float) : Type 0 where
   pub fitting : T (fits binary64 x)
-  pub finite : field_of (to_bits binary64 x) < 2047
   pub within : size x + sum_of size t ≤ n * piece_limit
   pub counted : n ≡ n₀
   pub total : total_of t +ℤ float_units x ≡ total_of t₀ +ℤ float_units x₀

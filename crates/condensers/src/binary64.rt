@@ -9,6 +9,7 @@ ghost use Rattle.condensers.specs.Fields.{leading, significand_of, height_of};
 ghost use Rattle.condensers.specs.Handed.{limited};
 ghost use Rattle.condensers.specs.Pairing.{float_units, size, place_of, range_limit, summand_of};
 
+use crate::finite::Finite;
 use crate::units::summand_at;
 use numbers::piece::{Piece, Summand};
 
@@ -27,15 +28,15 @@ fn pattern_of(piece: Piece) -> u64
 }
 
 /// The binary64 number that has the piece's value.
-pub(crate) fn number_of(piece: Piece) -> f64
-    ensures value { float_value result ≡ Some (piece_units piece) }
-    ensures limits { field_of (to_bits binary64 result) < 2047 }
+pub(crate) fn number_of(piece: Piece) -> Finite
+    ensures value { float_value result.number ≡ Some (piece_units piece) }
 {
     if piece.significand == 0 {
-        return 0.0;
+        return Finite { number: 0.0 };
     }
     let size = f64::from_bits(pattern_of(piece));
-    if piece.negative { -size } else { size }
+    let number = if piece.negative { -size } else { size };
+    Finite { number }
 }
 
 /// The exponent field of a pattern.
@@ -46,25 +47,26 @@ fn exponent_field(bits: u64) -> u64
     bits / FIELD % 2048
 }
 
-/// The place of a number: two for every exponent field, one for each lowest fraction bit (the genus).
-pub(crate) fn place_of(number: f64) -> usize
-    requires { field_of (to_bits binary64 number) < 2047 }
-    ensures answer { result ≡ place_of number }
-{
-    let bits = number.to_bits();
-    (2 * exponent_field(bits) + bits % 2) as usize
+impl Finite {
+    /// The place of a number: two for every exponent field, one for each lowest fraction bit (the genus).
+    pub(crate) fn place_of(self) -> usize
+        ensures answer { result ≡ place_of self.number }
+    {
+        let bits = self.number.to_bits();
+        (2 * exponent_field(bits) + bits % 2) as usize
+    }
 }
 
 /// The sum of two numbers of one place by one binary64 addition, which is exact.
-pub(crate) fn sum_of_pair(a: f64, b: f64) -> f64
-    requires finite { field_of (to_bits binary64 a) < 2047 }
-    requires paired { place_of a ≡ place_of b }
-    requires within { size a + size b < range_limit }
-    ensures answer { result ≡ add binary64 a b }
-    ensures value { float_value result ≡ Some (float_units a +ℤ float_units b) }
-    ensures limits { field_of (to_bits binary64 result) < 2047 }
+pub(crate) fn sum_of_pair(a: Finite, b: Finite) -> Finite
+    requires paired { place_of a.number ≡ place_of b.number }
+    requires within { size a.number + size b.number < range_limit }
+    ensures answer { result.number ≡ add binary64 a.number b.number }
+    ensures value { float_value result.number ≡ Some (float_units a.number +ℤ float_units b.number) }
 {
-    a + b
+    Finite {
+        number: a.number + b.number,
+    }
 }
 
 /// The bit in front of the fraction, by the exponent field.
@@ -76,15 +78,14 @@ fn leading_of(field: u64) -> u64
 }
 
 /// The summand of what stands at a place: its sign, its significand and the exponent of its lowest bit. Exponent fields 0 and 1 weigh the same.
-pub(crate) fn summand_of(entry: f64) -> Summand
-    requires finite { field_of (to_bits binary64 entry) < 2047 }
-    requires limits { T (limited (significand_of (to_bits binary64 entry)) (height_of (to_bits binary64 entry))) }
-    ensures answer { result ≡ summand_of entry }
+pub(crate) fn summand_of(entry: Finite) -> Summand
+    requires { T (limited (significand_of (to_bits binary64 entry.number)) (height_of (to_bits binary64 entry.number))) }
+    ensures answer { result ≡ summand_of entry.number }
 {
-    let bits = entry.to_bits();
+    let bits = entry.number.to_bits();
     let field = exponent_field(bits);
     summand_at(
-        entry.is_sign_negative(),
+        entry.number.is_sign_negative(),
         leading_of(field) + bits % FIELD,
         field.saturating_sub(1) as u32,
     )

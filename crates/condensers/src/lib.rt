@@ -4,5 +4,6 @@
 mod binary64;
 pub mod column_table;
 pub mod condenser;
+mod finite;
 pub mod pairing_table;
 mod units;

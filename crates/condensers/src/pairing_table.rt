@@ -1,15 +1,14 @@
 //! The pairing table: a condenser that keeps binary64 numbers, each at the place of its exponent field and lowest fraction bit, and adds two of one place exactly.
-ghost use Rattle.std.specs.Prelude.{◌≡◌, ◌+◌, ◌*◌, ◌<◌, ◌≤◌, T, map, length, pos, ◌+ℤ◌, to_bits};
-ghost use Rattle.std.specs.Float.{binary64};
+ghost use Rattle.std.specs.Prelude.{◌≡◌, ◌+◌, ◌*◌, ◌<◌, ◌≤◌, T, map, length, pos, ◌+ℤ◌};
 ghost use Rattle.std.proofs.Common.{lit≤};
-ghost use Rattle.numbers.specs.Patterns.{field_of};
 ghost use Rattle.numbers.specs.Products.{piece_units};
 ghost use Rattle.condensers.specs.Meaning.{PutAnswer, PutAfter};
 ghost use Rattle.condensers.specs.Pairing.{float_units, size, total_of, sum_of, stand_from, piece_limit, summand_of, empty_table, Enters, PieceEnters, PutEnters};
 ghost use Rattle.condensers.specs.Laws.{entries_few, entries_exact};
 
-use crate::binary64::{number_of, place_of, sum_of_pair, summand_of};
+use crate::binary64::{number_of, sum_of_pair, summand_of};
 use crate::condenser::{CAPACITY, Condenser, refuse_if_full};
+use crate::finite::Finite;
 use numbers::piece::{Piece, Summand};
 use numbers::refusal::Refusal;
 
@@ -49,23 +48,22 @@ impl PairingTable {
     }
 
     /// Takes a number in: while its place is occupied, it is added to what stands there and the place is emptied.
-    fn enter(&mut self, number: f64)
-        requires finite { field_of (to_bits binary64 number) < 2047 }
-        requires within { size number + sum_of size self.old.entries ≤ self.old.count * piece_limit }
-        ensures total { total_of self.new.entries ≡ total_of self.old.entries +ℤ float_units number }
+    fn enter(&mut self, number: Finite)
+        requires { size number.number + sum_of size self.old.entries ≤ self.old.count * piece_limit }
+        ensures total { total_of self.new.entries ≡ total_of self.old.entries +ℤ float_units number.number }
         ensures count { self.new.count ≡ self.old.count }
-        ensures kept { Enters number self.old.entries self.new.entries }
+        ensures kept { Enters number.number self.old.entries self.new.entries }
     {
         let mut moving = number;
-        while moving != 0.0 {
-            let place = place_of(moving);
+        while moving.number != 0.0 {
+            let place = moving.place_of();
             let held = self.entries[place];
             if held == 0.0 {
-                self.entries[place] = moving;
+                self.entries[place] = moving.number;
                 return;
             }
             self.entries[place] = 0.0;
-            moving = sum_of_pair(moving, held);
+            moving = sum_of_pair(moving, Finite { number: held });
         }
     }
 
@@ -133,7 +131,7 @@ impl Condenser for PairingTable {
 
     fn summand(&self, k: u64) -> Summand {
         match self.entries.get(k as usize) {
-            Some(entry) => summand_of(*entry),
+            Some(entry) => summand_of(Finite { number: *entry }),
             None => Summand::ZERO,
         }
     }

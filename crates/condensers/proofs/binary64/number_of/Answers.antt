@@ -1,8 +1,7 @@
 -- The pattern of the piece's size is read as that size, and its negation as the piece's value. Assumes nothing.
-use Rattle.std.proofs.Common.{◌≡◌, ℕ, ◌*◌, ◌^◌, ◌<◌, Bool, true, false, T, ℤ, pos, neg_ℤ, Some, sym, ap, ap₂, ◌∙◌, lit<}
-use lib.Ieee.{Float, nan, inf, fin, binary64, of_bits, to_bits, neg, fits}
+use Rattle.std.proofs.Common.{◌≡◌, ℕ, ◌*◌, ◌^◌, ◌<◌, Bool, true, false, ℤ, pos, neg_ℤ, Some, sym, ap, ap₂, ◌∙◌, lit<, rules}
+use lib.Ieee.{Float, nan, inf, fin, binary64, of_bits, neg}
 use lib.Ieee.Bits.{of_bits-fits}
-use lib.Ieee.Fits.{neg-fits}
 use Rattle.numbers.specs.declared.piece.Piece.{Piece}
 use Rattle.numbers.specs.Units.{rank, signed, units, float_value}
 use Rattle.numbers.specs.Products.{piece_units}
@@ -13,6 +12,7 @@ use Rattle.condensers.specs.Pairing.{float_units}
 use Rattle.condensers.specs.Laws.Patterns.{number_is, pattern_no_nan, pattern_number, finite_field}
 use Rattle.condensers.proofs.Building.{plus_sign}
 use Rattle.condensers.proofs.binary64.number_of.Goals as goal
+use Rattle.condensers.proofs.binary64.number_of.Goals.{Joined-piece, then-piece, else-piece}
 
 negated : (x : Float) (v : ℤ) → float_value x ≡ Some v → float_value (neg x) ≡ Some (neg_ℤ v)
 unfolding float_value float_units neg
@@ -23,10 +23,12 @@ negated (fin s m k) v e = ap Some (units_not s m k ∙ ap neg_ℤ (number_is (fi
 nothing : float_value (of_bits binary64 0) ≡ Some (pos 0)
 nothing = pattern_number 0 (lit< tt)
 
+pub invariant_of-result : goal.invariant_of-result
+invariant_of-result c = record { finite = finite_field (of_bits binary64 0) (pos 0) (of_bits-fits binary64 0) nothing }
+
 pub returns-then-piece-eq0 : goal.returns-then-piece-eq0
 returns-then-piece-eq0 c = record {
   value = nothing ∙ ap Some (sym (ap (λ (m : ℕ). units c.args.piece.negative m c.args.piece.exponent) c.if-piece-eq0.true ∙ units-zero c.args.piece.negative c.args.piece.exponent));
-  limits = finite_field (of_bits binary64 0) (pos 0) (of_bits-fits binary64 0) nothing;
 }
 
 pub float_from_bits-size : goal.float_from_bits-size
@@ -37,25 +39,23 @@ size_value : (piece : Piece) (p : ℕ) → p < 2 ^ 63 → field_of p < 2047 → 
     → float_value (of_bits binary64 p) ≡ Some (pos (piece.significand * 2 ^ rank piece.exponent))
 size_value piece p l f e = pattern_number p f ∙ ap Some (ap₂ signed (plus_sign p l) e)
 
--- the number x has the piece's value, and so a field of a finite number
-valued : (piece : Piece) (x : Float) (s : Bool) → T (fits binary64 x) → float_value x ≡ Some (signed s (piece.significand * 2 ^ rank piece.exponent)) → piece.negative ≡ s
-    → (float_value x ≡ Some (piece_units piece)) × (field_of (to_bits binary64 x) < 2047)
+-- a number that is the size with the piece's sign has the piece's value
+signed-size : (piece : Piece) (x : Float) (s : Bool) → float_value x ≡ Some (signed s (piece.significand * 2 ^ rank piece.exponent)) → piece.negative ≡ s → float_value x ≡ Some (piece_units piece)
 unfolding units
-valued piece x s f e n = (e ∙ ap (λ (b : Bool). Some (signed b (piece.significand * 2 ^ rank piece.exponent))) (sym n), finite_field x _ f e)
+signed-size piece x s e n = e ∙ ap (λ (b : Bool). Some (signed b (piece.significand * 2 ^ rank piece.exponent))) (sym n)
 
-pub returns-then-piece : goal.returns-then-piece
-returns-then-piece c =
+number-value : (c : Joined-piece) → float_value c.if-piece.number ≡ Some (piece_units c.args.piece)
+number-value c =
     let p = c.pattern_of-size in
     let x = of_bits binary64 p.result in
-    let v = valued c.args.piece (neg x) true (neg-fits binary64 x (of_bits-fits binary64 p.result))
-    (negated x _ (size_value c.args.piece p.result p.ensures.limits.0 p.ensures.limits.1 p.ensures.value)) c.if-piece.true
-    in
-    record { value = v.0; limits = v.1 }
+    let e = size_value c.args.piece p.result p.ensures.limits.0 p.ensures.limits.1 p.ensures.value in
+    elim c.if-piece.branch [
+      | then-piece w ↦ ap float_value w.number-is ∙ signed-size c.args.piece (neg x) true (negated x _ e) w.if-piece.true
+      | else-piece w ↦ ap float_value w.number-is ∙ signed-size c.args.piece x false e w.if-piece.false
+    ]
 
-pub returns-else-piece : goal.returns-else-piece
-returns-else-piece c =
-    let p = c.pattern_of-size in
-    let v = valued c.args.piece (of_bits binary64 p.result) false (of_bits-fits binary64 p.result)
-    (size_value c.args.piece p.result p.ensures.limits.0 p.ensures.limits.1 p.ensures.value) c.if-piece.false
-    in
-    record { value = v.0; limits = v.1 }
+pub invariant_of-result-2 : goal.invariant_of-result-2
+invariant_of-result-2 c = record { finite = finite_field c.if-piece.number _ (search rules) (number-value c) }
+
+pub returns : goal.returns
+returns c = record { value = number-value (goal.at.returns c).Joined-piece }

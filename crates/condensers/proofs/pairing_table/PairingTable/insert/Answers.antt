@@ -1,5 +1,5 @@
 -- A piece enters as its number, whose size is at most 2^968. Assumes nothing.
-use Rattle.std.proofs.Common.{ℕ, ◌^◌, ◌≤◌, T, ℤ, ◌+ℤ◌, nat_abs, sym, ap, ◌∙◌, subst, mul-le-mul, arith, pow_mono}
+use Rattle.std.proofs.Common.{ℕ, ◌^◌, ◌≤◌, ℤ, ◌+ℤ◌, nat_abs, sym, ap, ◌∙◌, subst, mul-le-mul, arith, pow_mono, rules}
 use Rattle.numbers.specs.declared.piece.Piece.{Piece}
 use Rattle.numbers.specs.Products.{piece_units}
 use Rattle.numbers.proofs.Window.{size-units}
@@ -16,15 +16,15 @@ piece_size p =
 
 pub enter-requires : goal.enter-requires
 enter-requires c =
-    let x = c.number_of.result in
+    let x = c.number_of.result.number in
     let l : size x ≤ piece_limit = subst (λ (v : ℤ). nat_abs v ≤ piece_limit) (sym (number_is x _ c.number_of.ensures.value)) (piece_size c.args.piece) in
-    record { finite = c.number_of.ensures.limits; within = omega (arith, c.args.self.now.bounded) }
+    omega (arith, c.args.self.now.bounded)
 
 pub returns : goal.returns
 returns c =
     let t = c.args.self.now in
     record {
-      total = c.enter.ensures.total ∙ ap (λ (v : ℤ). total_of t.entries +ℤ v) (number_is c.number_of.result _ c.number_of.ensures.value);
+      total = c.enter.ensures.total ∙ ap (λ (v : ℤ). total_of t.entries +ℤ v) (number_is c.number_of.result.number _ c.number_of.ensures.value);
       count = c.enter.ensures.count;
-      kept = (c.number_of.result, subst T (sym c.number_of.type_inv) tt, c.number_of.ensures.value, c.enter.ensures.kept);
+      kept = (c.number_of.result.number, search rules, c.number_of.ensures.value, c.enter.ensures.kept);
     }

@@ -1,5 +1,5 @@
 -- What stands at a place is within a summand's limits. Assumes nothing.
-use Rattle.std.proofs.Common.{ℕ, ◌*◌, ◌<◌, ◌≤◌, T, get_or, sym, subst, le_trans, mul-le-mul_right, zero-add}
+use Rattle.std.proofs.Common.{◌≡◌, ℕ, ◌*◌, ◌<◌, ◌≤◌, T, length, get_or, sym, subst, le_trans, mul-le-mul_right, zero-add}
 use lib.Ieee.{Float, nan}
 use Rattle.condensers.specs.declared.pairing_table.PairingTable.{PairingTable}
 use Rattle.condensers.specs.Pairing.{stands, size, piece_limit}
@@ -13,14 +13,18 @@ at_place t k l = subst (λ (m : ℕ). T (stands m (get_or t.entries k nan))) (ze
 at_most : (t : PairingTable) (k : ℕ) → k < 4096 → size (get_or t.entries k nan) ≤ 67108864 * piece_limit
 at_most t k l = le_trans (sum-at size t.entries k (subst (λ (n : ℕ). k < n) (sym t.long) l)) (le_trans t.bounded (mul-le-mul_right piece_limit t.few))
 
+-- the number x, taken out of place k, stands there
+there : (t : PairingTable) (k : ℕ) (x : Float) → k < length t.entries → x ≡ get_or t.entries k nan → T (stands k x)
+there t k x l e = subst (λ (y : Float). T (stands k y)) (sym e) (at_place t k (subst (λ (n : ℕ). k < n) t.long l))
+
+pub invariant_of-summand_of : goal.invariant_of-summand_of
+invariant_of-summand_of c =
+    let seen = c.in-Some.ensures.lookup.3 in
+    record { finite = standing_field c.args.k c.in-Some.entry.now (there c.args.self.now c.args.k c.in-Some.entry.now seen.0 (seen.1 nan)) }
+
 pub summand_of-requires : goal.summand_of-requires
 summand_of-requires c =
     let t = c.args.self.now in
     let k = c.args.k in
     let seen = c.in-Some.ensures.lookup.3 in
-    let l : k < 4096 = subst (λ (n : ℕ). k < n) t.long seen.0 in
-    let s = subst (λ (x : Float). T (stands k x)) (sym (seen.1 nan)) (at_place t k l) in
-    record {
-      finite = standing_field k c.in-Some.entry.now s;
-      limits = standing_limited k c.in-Some.entry.now s (subst (λ (x : Float). size x ≤ 67108864 * piece_limit) (sym (seen.1 nan)) (at_most t k l));
-    }
+    standing_limited k c.in-Some.entry.now (there t k c.in-Some.entry.now seen.0 (seen.1 nan)) (subst (λ (x : Float). size x ≤ 67108864 * piece_limit) (sym (seen.1 nan)) (at_most t k (subst (λ (n : ℕ). k < n) t.long seen.0)))
