@@ -28,15 +28,17 @@ fn pattern_of(piece: Piece) -> u64
 }
 
 /// The binary64 number that has the piece's value.
-pub(crate) fn number_of(piece: Piece) -> Finite
-    ensures value { float_value result.number ≡ Some (piece_units piece) }
-{
-    if piece.significand == 0 {
-        return Finite { number: 0.0 };
+impl From<Piece> for Finite {
+    ghost from_gives = { λ piece f. float_value f.number ≡ Some (piece_units piece) };
+
+    fn from(piece: Piece) -> Finite {
+        if piece.significand == 0 {
+            return Finite { number: 0.0 };
+        }
+        let size = f64::from_bits(pattern_of(piece));
+        let number = if piece.negative { -size } else { size };
+        Finite { number }
     }
-    let size = f64::from_bits(pattern_of(piece));
-    let number = if piece.negative { -size } else { size };
-    Finite { number }
 }
 
 /// The exponent field of a pattern.
@@ -77,6 +79,7 @@ fn leading_of(field: u64) -> u64
     if field == 0 { 0 } else { FIELD }
 }
 
+// no From: a number has a summand only within a summand's limits
 /// The summand of what stands at a place: its sign, its significand and the exponent of its lowest bit. Exponent fields 0 and 1 weigh the same.
 pub(crate) fn summand_of(entry: Finite) -> Summand
     requires { T (limited (significand_of (to_bits binary64 entry.number)) (height_of (to_bits binary64 entry.number))) }

@@ -104,6 +104,7 @@ impl ColumnTable {
     }
 }
 
+// each table writes its calls itself, see the trait
 impl Condenser for ColumnTable {
     ghost total = { λ t. column_total t.columns };
 

@@ -36,7 +36,7 @@ pub trait Condenser {
         ensures total { total self.new ≡ pos 0 }
         ensures count { count self.new ≡ 0 };
 
-    // No body here: the put of each table also promises what it leaves in the table's own array.
+    // no bodies here: each table has an array and a count of its own, tied by one invariant, and its calls promise what they leave in them
     /// Adds one piece, or refuses it where the capacity is reached.
     fn put(&mut self, piece: Piece) -> Result<(), Refusal>
         ensures answer { PutAnswer capacity (count self.old) result }

@@ -6,7 +6,7 @@ ghost use Rattle.condensers.specs.Meaning.{PutAnswer, PutAfter};
 ghost use Rattle.condensers.specs.Pairing.{float_units, size, total_of, sum_of, stand_from, piece_limit, summand_of, empty_table, Enters, PieceEnters, PutEnters};
 ghost use Rattle.condensers.specs.Laws.{entries_few, entries_exact};
 
-use crate::binary64::{number_of, sum_of_pair, summand_of};
+use crate::binary64::{sum_of_pair, summand_of};
 use crate::condenser::{CAPACITY, Condenser, refuse_if_full};
 use crate::finite::Finite;
 use numbers::piece::{Piece, Summand};
@@ -75,10 +75,11 @@ impl PairingTable {
         ensures kept { PieceEnters piece self.old.entries self.new.entries }
     {
         self.count += 1;
-        self.enter(number_of(piece));
+        self.enter(Finite::from(piece));
     }
 }
 
+// each table writes its calls itself, see the trait
 impl Condenser for PairingTable {
     ghost total = { λ t. total_of t.entries };
 

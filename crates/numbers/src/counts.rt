@@ -42,6 +42,7 @@ impl Kind for Counts {
 }
 
 /// A count as ±size × 2^halvings.
+// halved step by step, as the rule says it: the halvings are needed beside the size
 #[derive(Clone, Copy)]
 struct Halved {
     negative: bool,

@@ -46,6 +46,7 @@ impl Kind for Patterns {
 }
 
 /// A pattern taken apart.
+// the tables and the readings take patterns apart for other ends, where they are finite: one public function would need a precondition
 #[derive(Clone, Copy)]
 struct Parts {
     negative: bool,

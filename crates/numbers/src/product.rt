@@ -28,6 +28,7 @@ impl Piece {
         if self.significand == 0 {
             return self;
         }
+        // each field named: a struct with limits takes no `..`
         Piece {
             negative: !self.negative,
             significand: self.significand,

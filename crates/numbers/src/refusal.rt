@@ -57,7 +57,7 @@ impl Side {
     pub fn number(self) -> u64
         ensures answer { result ≡ side_of self }
     {
-        self as u64
+        u64::from(self as u8)
     }
 }
 

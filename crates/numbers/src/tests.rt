@@ -7,6 +7,7 @@ use crate::piece::Piece;
 use crate::refusal::Reason;
 use std::test::Fail;
 
+// numbers, so that the codes themselves are compared
 /// An answer in numbers: its code, 0 where the element is accepted, and the factor's sign, significand and exponent.
 fn numbers_of(answer: Result<Factor, Reason>) -> (u64, bool, u32, i32) {
     match answer {

@@ -16,15 +16,15 @@ piece_size p =
 
 pub enter-requires : goal.enter-requires
 enter-requires c =
-    let x = c.number_of.result.number in
-    let l : size x ≤ piece_limit = subst (λ (v : ℤ). nat_abs v ≤ piece_limit) (sym (number_is x _ c.number_of.ensures.value)) (piece_size c.args.piece) in
+    let x = c.from.result.number in
+    let l : size x ≤ piece_limit = subst (λ (v : ℤ). nat_abs v ≤ piece_limit) (sym (number_is x _ c.from.ensures)) (piece_size c.args.piece) in
     omega (arith, c.args.self.now.bounded)
 
 pub returns : goal.returns
 returns c =
     let t = c.args.self.now in
     record {
-      total = c.enter.ensures.total ∙ ap (λ (v : ℤ). total_of t.entries +ℤ v) (number_is c.number_of.result.number _ c.number_of.ensures.value);
+      total = c.enter.ensures.total ∙ ap (λ (v : ℤ). total_of t.entries +ℤ v) (number_is c.from.result.number _ c.from.ensures);
       count = c.enter.ensures.count;
-      kept = (c.number_of.result.number, search rules, c.number_of.ensures.value, c.enter.ensures.kept);
+      kept = (c.from.result.number, search rules, c.from.ensures, c.enter.ensures.kept);
     }

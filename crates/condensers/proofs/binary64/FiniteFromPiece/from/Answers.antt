@@ -11,8 +11,8 @@ use Rattle.condensers.specs.Fields.{significand_of, height_of}
 use Rattle.condensers.specs.Pairing.{float_units}
 use Rattle.condensers.specs.Laws.Patterns.{number_is, pattern_no_nan, pattern_number, finite_field}
 use Rattle.condensers.proofs.Building.{plus_sign}
-use Rattle.condensers.proofs.binary64.number_of.Goals as goal
-use Rattle.condensers.proofs.binary64.number_of.Goals.{Joined-piece, then-piece, else-piece}
+use Rattle.condensers.proofs.binary64.FiniteFromPiece.from.Goals as goal
+use Rattle.condensers.proofs.binary64.FiniteFromPiece.from.Goals.{Joined-piece, then-piece, else-piece}
 
 negated : (x : Float) (v : ℤ) → float_value x ≡ Some v → float_value (neg x) ≡ Some (neg_ℤ v)
 unfolding float_value float_units neg
@@ -27,9 +27,8 @@ pub invariant_of-result : goal.invariant_of-result
 invariant_of-result c = record { finite = finite_field (of_bits binary64 0) (pos 0) (of_bits-fits binary64 0) nothing }
 
 pub returns-then-piece-eq0 : goal.returns-then-piece-eq0
-returns-then-piece-eq0 c = record {
-  value = nothing ∙ ap Some (sym (ap (λ (m : ℕ). units c.args.piece.negative m c.args.piece.exponent) c.if-piece-eq0.true ∙ units-zero c.args.piece.negative c.args.piece.exponent));
-}
+returns-then-piece-eq0 c =
+    nothing ∙ ap Some (sym (ap (λ (m : ℕ). units c.args.piece.negative m c.args.piece.exponent) c.if-piece-eq0.true ∙ units-zero c.args.piece.negative c.args.piece.exponent))
 
 pub float_from_bits-size : goal.float_from_bits-size
 float_from_bits-size c = pattern_no_nan c.pattern_of-size.result c.pattern_of-size.ensures.limits.1
@@ -58,4 +57,4 @@ pub invariant_of-result-2 : goal.invariant_of-result-2
 invariant_of-result-2 c = record { finite = finite_field c.if-piece.number _ (search rules) (number-value c) }
 
 pub returns : goal.returns
-returns c = record { value = number-value (goal.at.returns c).Joined-piece }
+returns c = number-value (goal.at.returns c).Joined-piece
