@@ -29,6 +29,7 @@ impl fmt::Display for Additions {
 
 /// How many places that were occupied have changed; the places are then as the table has them.
 fn changed(places: &mut [Summand], table: &PairingTable) -> usize {
+    // counted in the loop that writes each place
     let mut made: usize = 0;
     for (k, place) in places.iter_mut().enumerate() {
         let now = table.summand(k as u64);

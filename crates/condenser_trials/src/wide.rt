@@ -19,6 +19,7 @@ impl Wide {
         let mut wide = Wide {
             digits: [0; DIGITS],
         };
+        // by number, as a condenser hands them out
         for k in 0..condenser.summand_count() {
             wide.add(condenser.summand(k));
         }

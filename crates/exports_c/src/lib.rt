@@ -6,7 +6,7 @@ ghost use Rattle.numbers.specs.Counts.{count_value};
 ghost use Rattle.numbers.specs.Patterns.{pattern_value};
 ghost use Rattle.exports.specs.Answers.{Dot, Report};
 
-// a function for each pair of kinds: C has no generic ones
+// a function for each pair of kinds, and forms by their numbers: C has no generic functions and none of these types
 use exports::answer::Answer;
 use exports::dot::total_dot;
 use exports::sheet;

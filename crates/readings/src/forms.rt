@@ -35,6 +35,7 @@ pub struct Form {
     pub width: Width,
 }
 
+// four tables of two rows: one of four columns would be no plainer
 impl Width {
     /// How many binary digits a number has, the leading one counted.
     pub fn precision(self) -> u32

@@ -133,6 +133,7 @@ fn subtract(limbs: &mut [u64], other: &[u64]) -> bool
     ensures limits { natural limbs.new < 2 ^ (64 * length limbs.old) }
 {
     let mut borrow = false;
+    // an index for the limbs that are written: what is written through `iter_mut().zip` is not known to the invariant
     for (i, taken) in other.iter().enumerate() {
         (limbs[i], borrow) = limbs[i].borrowing_sub(*taken, borrow);
     }

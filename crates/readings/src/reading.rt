@@ -20,6 +20,7 @@ use numbers::refusal::{Reason, Refusal};
 const SHORT_LARGEST: u64 = 0x47ef_ffff_e000_0000;
 
 /// The significand of a binary64 pattern, and the power of two that it counts in, where the size is within binary32.
+// a pattern taken apart once more: a public function of `numbers` for this would need a precondition
 fn significand_of(pattern: u64) -> (u64, u32)
     requires { pattern % 2 ^ 63 ≤ SHORT_LARGEST }
     ensures value { Encodes binary64 pattern (signed (nat_le (2 ^ 63) pattern) (result.0 * 2 ^ result.1)) }

@@ -7,7 +7,7 @@ ghost use Rattle.reports.specs.Sheets.{lines_bag, Stands};
 use crate::ending::write_total;
 use crate::feeding::Finished;
 use crate::sheet::{Fed, RefusedLine, Sheet};
-use anyhow::{Context, anyhow};
+use anyhow::Context;
 use condensers::condenser::Condenser;
 use numbers::refusal::Refusal;
 use runs::run::Sealed;
@@ -65,9 +65,6 @@ fn write_report<W: Write, F: FnOnce(&mut [u8]) -> Result<usize, Refusal>>(
 {
     let mut text = [0; ROOM];
     let length = compose(&mut text).context("no room for the report")?;
-    let Some(report) = text.get(..length) else {
-        return Err(anyhow!("no room for the report"));
-    };
-    out.write_all(report)?;
+    out.write_all(text.get(..length).context("no room for the report")?)?;
     Ok(())
 }

@@ -1,5 +1,5 @@
 //! A rounding vector: a line of words that names a form, and pairs of patterns whose products make the value.
-use anyhow::anyhow;
+use anyhow::{Context, anyhow};
 use condensers::condenser::Condenser;
 use numbers::factor::Factor;
 use numbers::kind::Kind;
@@ -27,17 +27,14 @@ pub(crate) fn reading<C: Condenser>(
     line: &str,
 ) -> anyhow::Result<Result<u64, Refusal>> {
     let mut words = line.split_whitespace();
-    let (Some(direction), Some(width)) = (words.next(), words.next()) else {
-        return Err(anyhow!("no form"));
-    };
+    let direction = words.next().context("no form")?;
+    let width = words.next().context("no form")?;
     let form = Form {
         direction: direction.parse()?,
         width: width.parse()?,
     };
     while let Some(first) = words.next() {
-        let Some(second) = words.next() else {
-            return Err(anyhow!("a pattern without its partner"));
-        };
+        let second = words.next().context("a pattern without its partner")?;
         put_product(condenser, first, second)?;
     }
     Ok(read_total(condenser, form))

@@ -1,5 +1,6 @@
 -- Elements: how the answer of a kind settles the outcome of an element, and of the elements of two slices. Assumes nothing.
 use Rattle.std.proofs.Common.{◌≡◌, ℕ, zero, suc, ◌+◌, ◌-◌, ◌*◌, ◌/◌, ◌^◌, ◌<◌, ◌≤◌, Bool, false, cond, eqb, ltb, ◌⊎◌, List, [], ◌∷◌, map, length, get_or, drop, ℤ, pos, negsuc, ◌+ℤ◌, ◌*ℤ◌, neg_ℤ, Some, None, Ok, Err, Option, Result, sym, refl, ap, ◌∙◌, subst, ap₂, inl, inr, mul-pos, mul-div_cancel, add-one, arith, drop_of_length-le, drop-cons, pow_pos}
+use Rattle.std.specs.Prelude.{MatchResult}
 use native.Mathlib.Nat.{zero-div}
 use lib.IntN.{+ℤ_assoc}
 use lib.ListN.{length-map}
@@ -8,7 +9,9 @@ use Rattle.std.proofs.lemmas.Bool.{eq-eqb, ne_eqb, lt-ltb, le-ltb, cond-true, co
 use Rattle.condensers.specs.declared.condenser.Condenser.{Ghosts as Condenser}
 use Rattle.numbers.specs.declared.factor.Factor.{Factor}
 use Rattle.numbers.specs.declared.piece.Piece.{Piece}
+use Rattle.numbers.specs.declared.refusal.Reason.{Reason}
 use Rattle.numbers.specs.declared.refusal.Refusal.{Refusal}
+use Rattle.numbers.specs.declared.refusal.Side.{Side}
 use Rattle.numbers.specs.Acceptance.{Answers, element_code}
 use Rattle.numbers.specs.Products.{factor_units, piece_units, one_units}
 use Rattle.numbers.specs.Refusals.{side_of}
@@ -32,6 +35,13 @@ factor-refused x e side h s =
     let code = answer-code x (Err e.reason) h in
     let no : eqb (element_code x) 0 ≡ false = ne_eqb (element_code x) 0 (λ z. omega arith) in
     subst (λ (b : Bool). Says (cond b accepted (refused (element_code x) e.place side)) (Err e)) (sym no) (code, refl, s)
+
+-- a kind's answer with its reason made a refusal
+pub factor_told : {Made : Factor → Type 0} {Missed : Reason → Type 0} (x : Option ℤ) (place : ℕ) (side : Side) (r : Result Factor Reason) (s : Result Factor Refusal) → Answers x r
+    → MatchResult r Made Missed → ((f : Factor) → Made f → s ≡ Ok f) → ((e : Reason) → Missed e → s ≡ Err (record { reason = e; place = place; side = side })) → FactorAt x place (side_of side) s
+factor_told x place side (Ok f) s h by ok err = subst (λ (t : Result Factor Refusal). FactorAt x place (side_of side) t) (sym (ok f by)) (factor-accepted x f place (side_of side) h)
+factor_told x place side (Err e) s h by ok err =
+    subst (λ (t : Result Factor Refusal). FactorAt x place (side_of side) t) (sym (err e by)) (factor-refused x (record { reason = e; place = place; side = side }) (side_of side) h refl)
 
 -- tests in order
 

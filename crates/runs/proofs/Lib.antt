@@ -2,6 +2,7 @@
 pub mod Bags
 pub mod Elements
 pub mod Playing
+pub mod Told
 mod Agreements
 pub mod LineTexts
 mod EnteredLines

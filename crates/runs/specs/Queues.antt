@@ -42,6 +42,10 @@ abbrev pub told : Result (Unit {0}) Refusal → Answer
 told (Ok _) = record { code = 0; place = 0; side = 0 }
 told (Err e) = record { code = code_of e.reason; place = e.place; side = side_of e.side }
 
+-- answers with the same numbers are the same answer
+abbrev pub ToldOnce : Type 0
+ToldOnce = (r s : Result (Unit {0}) Refusal) → told r ≡ told s → r ≡ s
+
 -- the numbers of an outcome
 abbrev pub answer_of : Outcome → Answer
 answer_of accepted = record { code = 0; place = 0; side = 0 }

@@ -67,6 +67,7 @@ pub fn compare_queues<C: Condenser + Drop, D: Condenser + Drop>(
 }
 
 /// Both queues played, and both totals read.
+// the parameters of compare_queues
 fn read_both<C: Condenser + Drop, D: Condenser + Drop>(
     first: C,
     first_queue: &[Leg],

@@ -45,12 +45,7 @@ impl<C: Condenser + Drop> Open<C> {
     ) -> Result<(), Refusal>
         ensures call { Made C.Condenser self.old.condenser self.new.condenser (slices (is_withdrawn entering) (map K.Kind.value firsts.now) (map L.Kind.value seconds.now)) result }
     {
-        check_slices::<K, L>(
-            self.condenser.put_limit(),
-            self.condenser.put_count(),
-            firsts,
-            seconds,
-        )?;
+        check_slices::<C, K, L>(&self.condenser, firsts, seconds)?;
         self.put_products::<K, L>(entering, firsts, seconds)
     }
 

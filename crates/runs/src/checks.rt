@@ -3,6 +3,7 @@ ghost use Rattle.std.specs.Prelude.{◌≡◌, map, length};
 ghost use Rattle.runs.specs.Calls.{Says, lengths_outcome, room_outcome, elements_outcome, slices_outcome};
 
 use crate::element::piece_at;
+use condensers::condenser::Condenser;
 use numbers::kind::Kind;
 use numbers::refusal::{Reason, Refusal, Side};
 use std::cmp::Ordering;
@@ -27,10 +28,10 @@ fn check_lengths(first: usize, second: usize) -> Result<(), Refusal>
 }
 
 /// Refuses more products than fit: how many still do.
-pub(crate) fn check_room(capacity: u64, count: u64, products: u64) -> Result<(), Refusal>
-    ensures answer { Says (room_outcome capacity count products) result }
+pub(crate) fn check_room<C: Condenser>(condenser: &C, products: u64) -> Result<(), Refusal>
+    ensures answer { Says (room_outcome C.Condenser.capacity (C.Condenser.count condenser.now) products) result }
 {
-    let room = capacity.saturating_sub(count);
+    let room = condenser.put_limit().saturating_sub(condenser.put_count());
     if room < products {
         return Err(Refusal::at(Reason::Full, room));
     }
@@ -53,15 +54,14 @@ fn check_elements<K: Kind, L: Kind>(
 }
 
 /// Every test of a call on two slices, in order: the lengths, the room, the elements.
-pub(crate) fn check_slices<K: Kind, L: Kind>(
-    capacity: u64,
-    count: u64,
+pub(crate) fn check_slices<C: Condenser, K: Kind, L: Kind>(
+    condenser: &C,
     firsts: &[K::Element],
     seconds: &[L::Element],
 ) -> Result<(), Refusal>
-    ensures answer { Says (slices_outcome capacity count (map K.Kind.value firsts.now) (map L.Kind.value seconds.now)) result }
+    ensures answer { Says (slices_outcome C.Condenser.capacity (C.Condenser.count condenser.now) (map K.Kind.value firsts.now) (map L.Kind.value seconds.now)) result }
 {
     check_lengths(firsts.len(), seconds.len())?;
-    check_room(capacity, count, firsts.len() as u64)?;
+    check_room(condenser, firsts.len() as u64)?;
     check_elements::<K, L>(firsts, seconds)
 }

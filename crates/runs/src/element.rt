@@ -16,14 +16,11 @@ pub(crate) fn factor_at<K: Kind>(
 ) -> Result<Factor, Refusal>
     ensures answer { FactorAt (K.Kind.value element) place (side_of side) result }
 {
-    match K::factor(element) {
-        Ok(factor) => Ok(factor),
-        Err(reason) => Err(Refusal {
-            reason,
-            place,
-            side,
-        }),
-    }
+    K::factor(element).map_err(|reason| Refusal {
+        reason,
+        place,
+        side,
+    })
 }
 
 /// The product of two factors, or the first refusal.

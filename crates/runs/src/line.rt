@@ -33,7 +33,7 @@ impl<C: Condenser + Drop> Open<C> {
             first,
             second,
         } = read_line(line)?;
-        check_room(self.condenser.put_limit(), self.condenser.put_count(), 1)?;
+        check_room(&self.condenser, 1)?;
         let product = product_of(
             factor_of(first, Side::First),
             factor_of(second, Side::Second),

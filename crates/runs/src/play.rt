@@ -2,7 +2,7 @@
 ghost use Rattle.std.specs.Prelude.{◌≡◌, ◌+◌, List, ◌++◌, map, length, if◌then◌else◌, nat_lt, slice_set};
 ghost use Rattle.runs.specs.Bags.{Entry, exact_sum};
 ghost use Rattle.runs.specs.Calls.{ValueCall};
-ghost use Rattle.runs.specs.Queues.{value_call, calls_of, bag_of, told, answers_of, written, Holds, Resumes};
+ghost use Rattle.runs.specs.Queues.{value_call, calls_of, bag_of, told, ToldOnce, answers_of, written, Holds, Resumes};
 
 use crate::queue::{Answer, Call, Leg};
 use crate::run::{Open, Sealed};
@@ -10,7 +10,7 @@ use condensers::condenser::Condenser;
 use readings::forms::Form;
 
 /// Writes an answer at `next` where that lies in the buffer, and gives the place behind it.
-// the place is counted: it stops at the end of the buffer, however many calls there are
+// by place: nothing is known of what is written through an iterator that goes on from leg to leg
 fn note(answers: &mut [Answer], next: usize, answer: Answer) -> usize
     ensures after { answers.new ≡ slice_set answers.old next answer }
     ensures answer { result ≡ (if nat_lt next (length answers.old) then next + 1 else next) }
@@ -48,10 +48,12 @@ fn read_all<C: Condenser + Drop>(run: &Sealed<C>, forms: &[Form]) {
 
 /// Plays a queue over a condenser: opens a run, makes the calls of each leg, seals, reads and resumes, and seals at the end.
 /// The calls' answers are written into `answers`, as many as fit.
+#[tactic(auto, using(crate::proofs::Told::told_once))]
 pub fn play<C: Condenser + Drop>(condenser: C, queue: &[Leg], answers: &mut [Answer]) -> Sealed<C>
     ensures total { C.Condenser.total result.condenser ≡ exact_sum (bag_of C.Condenser.capacity (calls_of queue.now)) }
     ensures count { C.Condenser.count result.condenser ≡ length (bag_of C.Condenser.capacity (calls_of queue.now)) }
     ensures answer { map told answers.new ≡ written (map told answers.old) 0 (answers_of C.Condenser.capacity (calls_of queue.now)) }
+    ensures law { ToldOnce }
 {
     play_legs(condenser, queue, answers)
 }

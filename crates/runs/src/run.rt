@@ -43,6 +43,7 @@ impl<C: Condenser + Drop> Open<C> {
 }
 
 impl<C: Condenser + Drop> Sealed<C> {
+    // not one call with `seal`: the two states are types, and each call uses one up
     /// Opens the run again.
     pub fn resume(self) -> Open<C>
         ensures unchanged { result.condenser ≡ self.condenser }

@@ -1,6 +1,6 @@
 //! Digits of a radix: how far a text of digits goes, the number that it writes, and the byte of a digit.
-ghost use Rattle.std.specs.Prelude.{◌≡◌, ◌^◌, ◌<◌, ◌≤◌, take};
-ghost use Rattle.sheets.specs.Digits.{worth, digit_byte, run, number_of};
+ghost use Rattle.std.specs.Prelude.{◌≡◌, ◌^◌, ◌<◌, ◌≤◌, true, false, take, MatchOption};
+ghost use Rattle.sheets.specs.Digits.{worth, digit_byte, is_digit, run, number_of};
 
 use numbers::kind::Kind;
 use numbers::patterns::Patterns;
@@ -15,16 +15,19 @@ pub struct Numeral {
     pub number: u64,
 }
 
-/// What a byte is worth as a digit, 16 where it is none.
-// no Option: 16 is below no radix, so one comparison refuses other bytes and digits of a larger radix alike
-fn digit_worth(byte: u8) -> u64
-    ensures answer { result ≡ worth byte }
+/// What a byte is worth as a digit of the radix, if it is one.
+// not by char::to_digit, which takes capital letters too
+fn digit_worth(byte: u8, radix: u64) -> Option<u64>
+    requires { radix ≤ 16 }
+    ensures answer { MatchOption result (is_digit radix byte ≡ false) (λ digit. (is_digit radix byte ≡ true) × (digit ≡ worth byte)) }
 {
-    match byte {
-        b'0'..=b'9' => u64::from(byte - b'0'),
-        b'a'..=b'f' => u64::from(byte - b'a') + 10,
-        _ => 16,
-    }
+    let worth = match byte {
+        b'0'..=b'9' => byte - b'0',
+        b'a'..=b'f' => byte - b'a' + 10,
+        _ => return None,
+    };
+    let digit = u64::from(worth);
+    (digit < radix).then_some(digit)
 }
 
 /// The byte that writes a digit below 16.
@@ -41,17 +44,16 @@ pub(crate) fn digit_byte(digit: u8) -> u8
 
 /// The digits at the front of the text, at most `most`, so few that their number fits.
 pub(crate) fn read_digits(text: &[u8], radix: u64, most: usize) -> Numeral
-    requires { (radix ^ most ≤ 2 ^ 64) × (0 < radix) }
+    requires { (radix ^ most ≤ 2 ^ 64) × ((0 < radix) × (radix ≤ 16)) }
     ensures count { result.count ≡ run radix most text.now }
     ensures value { result.number ≡ number_of radix (take result.count text.now) }
 {
     let front = &text[..most.min(text.len())];
     let mut number: u64 = 0;
     for (count, byte) in front.iter().enumerate() {
-        let digit = digit_worth(*byte);
-        if digit >= radix {
+        let Some(digit) = digit_worth(*byte, radix) else {
             return Numeral { count, number };
-        }
+        };
         number = number * radix + digit;
     }
     Numeral {

@@ -40,6 +40,7 @@ fn refused_text(line: u64, code: u64, place: u64) -> Text
     text
 }
 
+// not formatted, as above
 fn sum_text(pattern: u64, products: u64) -> Text
     ensures bytes { text_of result ≡ sum_report pattern products }
 {

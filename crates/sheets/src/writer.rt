@@ -46,6 +46,7 @@ fn rewrite(line: &[u8], out: &mut [u8]) -> Result<usize, Refusal>
 }
 
 /// The word and the two fields, each behind a tab.
+// not formatted by write!, whose promise leaves open whether all was written
 fn line_text<K: Written, L: Written>(word: Word, first: K::Element, second: L::Element) -> Text
     ensures bytes { text_of result ≡ line_text (word_text word) (K.Kind.LETTER ∷ K.Written.text first) (L.Kind.LETTER ∷ L.Written.text second) }
     ensures law { RoundTrip (line_text (word_text word) (K.Kind.LETTER ∷ K.Written.text first) (L.Kind.LETTER ∷ L.Written.text second)) word (λ f. K.Written.holds f first) (λ f. L.Written.holds f second) }
@@ -74,6 +75,7 @@ fn write_again(line: Line<'_>, out: &mut [u8]) -> Result<usize, Refusal>
     text.copy_to(out)
 }
 
+/// The texts of the two words.
 fn word_bytes(word: Word) -> &'static [u8]
     ensures bytes { result.now ≡ word_text word }
 {

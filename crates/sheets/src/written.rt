@@ -41,6 +41,7 @@ pub trait Written: Kind {
         ensures answer { ReadsText shape text outside bytes.now result }
         ensures law { Leads Self.Kind.LETTER shape outside };
 
+    // each kind makes its own variant
     /// The field that holds an element, with its text and the place of its letter.
     fn field<'a>(digits: &'a [u8], place: u64, element: Self::Element) -> Field<'a>
         ensures bytes { field_text result ≡ Self.Kind.LETTER ∷ digits.now }

@@ -45,7 +45,7 @@ impl Text {
     {
         let mut digits = [0; PATTERN_DIGITS];
         let mut left = pattern;
-        // by place, the last first: a digit is known by those that stand behind it
+        // by place, the last first: what a loop over iter_mut().rev() wrote is not known to its invariant; and not by write!, whose promise leaves open whether all was written
         for at in (0..PATTERN_DIGITS).rev() {
             digits[at] = digit_byte((left % 16) as u8);
             left /= 16;

@@ -9,14 +9,14 @@ pub returns-in_err-check_lengths : goal.returns-in_err-check_lengths
 returns-in_err-check_lengths g c =
     let p = err_from_is_err_and c.from_residual.result c.from_residual.ensures.1 in
     let e = c.in_err-check_lengths.field-0.0 in
-    let is = slices_is g.K.Kind.value g.L.Kind.value c.args.capacity c.args.count c.args.firsts.now c.args.seconds.now in
+    let is = slices_is g.K.Kind.value g.L.Kind.value g.C.Condenser.capacity (g.C.Condenser.count c.args.condenser.now) c.args.firsts.now c.args.seconds.now in
     rw (p.1, p.2) (record { answer = subst (λ (o : Outcome). Says o (Err e)) (sym is) (says_first _ _ e c.in_err-check_lengths.ensures.answer) })
 
 pub returns-in_err-check_room : goal.returns-in_err-check_room
 returns-in_err-check_room g c =
     let p = err_from_is_err_and c.from_residual-in_err-check_room.result c.from_residual-in_err-check_room.ensures.1 in
     let e = c.in_err-check_room.field-0.0 in
-    let is = slices_is g.K.Kind.value g.L.Kind.value c.args.capacity c.args.count c.args.firsts.now c.args.seconds.now in
+    let is = slices_is g.K.Kind.value g.L.Kind.value g.C.Condenser.capacity (g.C.Condenser.count c.args.condenser.now) c.args.firsts.now c.args.seconds.now in
     let same = says_ok _ tt c.in_ok-check_lengths.ensures.answer in
     rw (p.1, p.2)
     (record { answer = subst (λ (o : Outcome). Says o (Err e)) (sym is) (says_second _ _ (Err e) same (says_first _ _ e c.in_err-check_room.ensures.answer)) })
@@ -26,7 +26,7 @@ check_elements-requires g c = same_length _ _ (says_ok _ tt c.in_ok-check_length
 
 pub returns : goal.returns
 returns g c =
-    let is = slices_is g.K.Kind.value g.L.Kind.value c.args.capacity c.args.count c.args.firsts.now c.args.seconds.now in
+    let is = slices_is g.K.Kind.value g.L.Kind.value g.C.Condenser.capacity (g.C.Condenser.count c.args.condenser.now) c.args.firsts.now c.args.seconds.now in
     let same = says_ok _ tt c.in_ok-check_lengths.ensures.answer in
     let room = says_ok _ tt c.in_ok-check_room.ensures.answer in
     record {

@@ -1,7 +1,6 @@
 -- A line's text, the room and its elements are tested before the product is put. Assumes nothing.
-use Rattle.std.proofs.Common.{ℕ, Bool, cond, ℤ, neg_ℤ, Ok, Err, ◌∙◌, subst, ap₂}
+use Rattle.std.proofs.Common.{Bool, cond, ℤ, neg_ℤ, ◌∙◌, ap₂}
 use Rattle.std.proofs.lemmas.Result.{err_from_is_err_and}
-use Rattle.runs.specs.Calls.{Outcome, Says, room_outcome}
 use Rattle.runs.specs.Lines.{line_reading}
 use Rattle.runs.proofs.Elements.{says_ok}
 use Rattle.runs.proofs.EnteredLines.{made-misread, made-full, made_unfit, made-entered}
@@ -23,8 +22,7 @@ returns-in_err-check_room g c =
     let p = err_from_is_err_and c.from_residual-in_err-check_room.result c.from_residual-in_err-check_room.ensures.1 in
     let e = c.in_err-check_room.field-0.0 in
     let reading = line-accepted c.args.line.now c.in_ok-word.field-0 c.in_ok-word.ensures.answer in
-    let is = ap₂ (λ (m n : ℕ). room_outcome m n 1) c.put_limit.ensures.answer c.put_count.ensures.answer in
-    let said = subst (λ (o : Outcome). Says o (Err e)) is c.in_err-check_room.ensures.answer in
+    let said = c.in_err-check_room.ensures.answer in
     rw (p.1, p.2)
     (record { call = made-full g.C.Condenser c.args.self.now.condenser (line_reading c.args.line.now) _ _ _ _ _ reading e said })
 
@@ -34,8 +32,7 @@ returns-in_err-product g c =
     let e = c.in_err-product.field-0.0 in
     let l = c.in_ok-word.ensures.answer in
     let reading = line-accepted c.args.line.now c.in_ok-word.field-0 l in
-    let is = ap₂ (λ (m n : ℕ). room_outcome m n 1) c.put_limit.ensures.answer c.put_count.ensures.answer in
-    let room = says_ok _ tt (subst (λ (o : Outcome). Says o (Ok tt)) is c.in_ok-check_room.ensures.answer) in
+    let room = says_ok _ tt c.in_ok-check_room.ensures.answer in
     rw (p.1, p.2)
     (record {
       call = made_unfit g.C.Condenser c.args.self.now.condenser (line_reading c.args.line.now) _ _ _ _ _ reading e room
@@ -46,8 +43,7 @@ pub returns : goal.returns
 returns g c =
     let l = c.in_ok-word.ensures.answer in
     let reading = line-accepted c.args.line.now c.in_ok-word.field-0 l in
-    let is = ap₂ (λ (m n : ℕ). room_outcome m n 1) c.put_limit.ensures.answer c.put_count.ensures.answer in
-    let room = says_ok _ tt (subst (λ (o : Outcome). Says o (Ok tt)) is c.in_ok-check_room.ensures.answer) in
+    let room = says_ok _ tt c.in_ok-check_room.ensures.answer in
     let made = c.in_ok-product.ensures.answer _ _ _ _ (c.factor_of.ensures.answer l.first_is.writes) (c.factor_of-2.ensures.answer l.second_is.writes) in
     let value = c.piece.ensures.value ∙ ap₂ (λ (w : Bool) (v : ℤ). cond w (neg_ℤ v) v) c.from.ensures made.1 in
     record {
