@@ -1,4 +1,4 @@
-//! The calls of `exports` under their own names for C: each hands its arguments on, and promises what the call of the library does.
+//! The calls of `exports` under names for C: each hands its arguments on, and promises what the call of the library does.
 #![tactic(auto)]
 
 ghost use Rattle.std.specs.Prelude.{map};
