@@ -3,6 +3,9 @@ ghost use Rattle.std.specs.Prelude.{◌≡◌, length};
 ghost use Rattle.sheets.specs.Outputs.{Fits, handed};
 ghost use Rattle.sheets.specs.Reports.{refused_report};
 ghost use Rattle.numbers.specs.Refusals.{code_of};
+ghost use Rattle.std.specs.Float.{binary64};
+ghost use Rattle.readings.specs.declared.forms.Direction.TheVariants.{Nearest};
+ghost use Rattle.readings.specs.Rounding.{Rounds};
 ghost use Rattle.reports.specs.Sheets.{SumWritten};
 
 use crate::sheet::RefusedLine;
@@ -34,6 +37,14 @@ pub fn write_total<C: Condenser + Drop>(run: &Sealed<C>, out: &mut [u8]) -> Resu
 fn write_run<C: Condenser + Drop>(run: &Sealed<C>, out: &mut [u8]) -> Result<usize, Refusal>
     ensures answer { SumWritten (C.Condenser.total run.now.condenser) (C.Condenser.count run.now.condenser) out.old out.new result }
 {
-    let Report { reading, products } = run.report(Direction::Nearest);
+    let Report { reading, products } = report_of(run);
     write_sum(reading, products, out)
+}
+
+/// What the sum report tells.
+fn report_of<C: Condenser + Drop>(run: &Sealed<C>) -> Report
+    ensures value { Rounds binary64 Nearest (C.Condenser.total run.now.condenser) result.reading }
+    ensures count { result.products ≡ C.Condenser.count run.now.condenser }
+{
+    run.report(Direction::Nearest)
 }
