@@ -4,7 +4,7 @@ use mathlib.Core.List.{map-append}
 use Rattle.std.proofs.lemmas.Bool.{cond-true, cond-false, eqb-true}
 use Rattle.condensers.specs.declared.condenser.Condenser.{Ghosts as Condenser}
 use Rattle.numbers.specs.declared.refusal.Refusal.{Refusal}
-use Rattle.numbers.specs.Refusals.{code_of}
+use Rattle.numbers.specs.Refusals.{code_of, side_of}
 use Rattle.sheets.specs.declared.splitter.Splitter.{Splitter}
 use Rattle.sheets.specs.Splitting.{ended, held, current, last, sheet_lines, yielded, Took, After}
 use Rattle.sheets.proofs.Chunks.{ended_join}
@@ -60,12 +60,12 @@ module _ {C : Type 0} (m : Condenser C) (before after : C) (line : List ℕ) (n 
   enters_err e made r number refusal =
       record {
         holds = made_holds m before after (line_call line) (Err e) bag made h;
-        refused_is = ap₂ (λ (k : ℕ) (x : Refusal). record { line = k; code = code_of x.reason; place = x.place } ∷ []) number refusal ∙ subst (λ (k : ℕ). (record { line = n; code = code_of e.reason; place = e.place } ∷ []) ≡ refused_as n (call_outcome m.capacity k (line_call line))) h.count_is (go (call_outcome m.capacity (m.count before) (line_call line)) made.answer);
+        refused_is = ap₂ (λ (k : ℕ) (x : Refusal). record { line = k; code = code_of x.reason; place = x.place; side = side_of x.side } ∷ []) number refusal ∙ subst (λ (k : ℕ). (record { line = n; code = code_of e.reason; place = e.place; side = side_of e.side } ∷ []) ≡ refused_as n (call_outcome m.capacity k (line_call line))) h.count_is (go (call_outcome m.capacity (m.count before) (line_call line)) made.answer);
       }
     where
-      go : (o : Outcome) → Says o (Err e) → (record { line = n; code = code_of e.reason; place = e.place } ∷ []) ≡ refused_as n o
+      go : (o : Outcome) → Says o (Err e) → (record { line = n; code = code_of e.reason; place = e.place; side = side_of e.side } ∷ []) ≡ refused_as n o
       go accepted s = absurd s
-      go (refused code place side) s = λ i. record { line = n; code = s.0 i; place = s.1 i } ∷ []
+      go (refused code place side) s = λ i. record { line = n; code = s.0 i; place = s.1 i; side = s.2 i } ∷ []
 
 -- the lines of a sheet after a part of a chunk
 
