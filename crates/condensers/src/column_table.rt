@@ -36,6 +36,15 @@ fn no_columns() -> [i64; COLUMNS]
     [0; COLUMNS]
 }
 
+/// A part with the sign of its piece.
+// a value is chosen, and no branch taken, since signs come in no order that a processor could foresee
+fn signed_part(negative: bool, part: u32) -> i64
+    ensures value { result ≡ signed negative part }
+{
+    let size = i64::from(part);
+    if negative { -size } else { size }
+}
+
 /// The low 32 bits of the size of the column at `place`.
 fn low_summand(place: usize, column: i64) -> Summand
     requires { place < 64 }
@@ -77,11 +86,7 @@ impl ColumnTable {
         ensures after { self.new.columns ≡ slice_set self.old.columns column (slice_index_or self.old.columns column (pos 0) +ℤ signed negative part) }
         ensures count { self.new.count ≡ self.old.count }
     {
-        if negative {
-            self.columns[column] -= part as i64;
-        } else {
-            self.columns[column] += part as i64;
-        }
+        self.columns[column] += signed_part(negative, part);
     }
 
     /// Takes a piece in, part by part. Its parts lie in at most three columns; where there is no third column, the third part is nothing.

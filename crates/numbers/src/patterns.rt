@@ -79,11 +79,13 @@ impl Parts {
     fn exponent(self) -> Result<i32, Reason>
         ensures answer { ExponentOf self.field result }
     {
-        if self.field == 2047 {
-            return Err(Reason::NotFinite);
-        }
+        // one test for what lies inside the window: every pattern takes it
         if self.field < 512 || self.field > 1506 {
-            return Err(Reason::NotFactor);
+            return Err(if self.field == 2047 {
+                Reason::NotFinite
+            } else {
+                Reason::NotFactor
+            });
         }
         Ok(self.field as i32 - 1048)
     }

@@ -15,7 +15,7 @@ pub enum Reason {
     NotFactor = 2,
     /// The two slices differ in length.
     LengthsDiffer = 3,
-    /// No piece more can be put.
+    /// There is no room for that many more.
     Full = 4,
     /// The line has another shape.
     Shape = 5,

@@ -32,7 +32,7 @@ returns-then-first-lt-COLUMNS c =
     let R = c.rank-rank.result in
     let q = R / 32 in
     let r = piece_rank p c.from.result R c.from.ensures c.rank-rank.ensures.answer in
-    let inside : q + 2 < length t.columns = subst (λ (n : ℕ). q + 2 < n) (sym t.long) c.if-first-lt-COLUMNS.true in
+    let inside : q + 2 < length t.columns = omega (arith, t.long, c.if-first-lt-COLUMNS.true) in
     let h = held p t c.add_part-then-first-lt-COLUMNS.new.self R r.0 (λ j l.
     three_gains t.columns _ _ _ q _ _ _ c.add_part.ensures.after c.add_part-2.ensures.after c.add_part-then-first-lt-COLUMNS.ensures.after inside j
     ∙ ap (λ (v : ℤ). get_or t.columns j (pos 0) +ℤ v) (code-parts p.significand R p.short p.negative j))

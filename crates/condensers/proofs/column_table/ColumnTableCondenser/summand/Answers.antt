@@ -23,11 +23,11 @@ returns-then-k-eq0 c =
     let t = c.args.self.now in
     let k = c.args.k in
     let seen = c.in-Some.ensures.lookup.3 in
-    record { answer = low_stands t k c.low_summand.result (omega (arith, seen.0, t.long)) c.if-k-eq0.true (c.low_summand.ensures.answer ∙ ap (low_summand (k / 2)) (read_at t (k / 2) c.in-Some.column.now (seen.1 (pos 0)))) }
+    record { answer = low_stands t k c.low_summand.result (omega (arith, seen.0, t.long)) (omega (arith, c.if-k-eq0.true)) (c.low_summand.ensures.answer ∙ ap (low_summand (k / 2)) (read_at t (k / 2) c.in-Some.column.now (seen.1 (pos 0)))) }
 
 pub returns-else-k-eq0 : goal.returns-else-k-eq0
 returns-else-k-eq0 c =
     let t = c.args.self.now in
     let k = c.args.k in
     let seen = c.in-Some.ensures.lookup.3 in
-    record { answer = high-stands t k c.high_summand.result (omega (arith, seen.0, t.long)) c.if-k-eq0.false (c.high_summand.ensures.answer ∙ ap (high_summand (k / 2)) (read_at t (k / 2) c.in-Some.column.now (seen.1 (pos 0)))) }
+    record { answer = high-stands t k c.high_summand.result (omega (arith, seen.0, t.long)) (λ e. c.if-k-eq0.false (omega (arith, e))) (c.high_summand.ensures.answer ∙ ap (high_summand (k / 2)) (read_at t (k / 2) c.in-Some.column.now (seen.1 (pos 0)))) }

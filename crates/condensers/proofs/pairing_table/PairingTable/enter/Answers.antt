@@ -1,5 +1,5 @@
 -- Each turn stores the number or pairs it; the steps are those of `Entering`. Assumes nothing.
-use Rattle.std.proofs.Common.{◌≡◌, ℕ, true, List, ◌+ℤ◌, sym, refl, ap, ◌∙◌, rules}
+use Rattle.std.proofs.Common.{◌≡◌, ℕ, ◌<◌, true, List, set, ◌+ℤ◌, sym, ap, ◌∙◌, arith, rules}
 use lib.IntN.{+ℤ_idr}
 use lib.Ieee.{Float, binary64, ne, of_bits}
 use Rattle.condensers.specs.declared.finite.Finite.{Finite}
@@ -13,21 +13,32 @@ turn : {t₀ : List Float} {n₀ : ℕ} {x₀ : Float} (s : PairingTable) (x : F
     → Turn s.entries s.count x.number k
 turn s x i at m = record { long = s.long; standing = s.standing; few = s.few; fitting = i.fitting; finite = x.finite; within = i.within; moves = m; there = at }
 
+-- the number's place lies in the table
+inside : (x : Finite) {k : ℕ} → k ≡ place_of x.number → k < 4096
+inside x e = omega (arith, e)
+
+-- what is written at a place that is k is written at k
+written : (t : List Float) (y : Float) {i k : ℕ} → i ≡ k → set t i y ≡ set t k y
+written t y e = ap (λ (j : ℕ). set t j y) e
+
 pub invariant_of-self : goal.invariant_of-self
 invariant_of-self c =
     let w = turn c.loop-moving.self c.loop-moving.moving c.loop-moving.invariant c.place_of-place.ensures.answer c.loop-moving-test.true in
-    record { long = E.stored-long w _ refl; standing = E.stored_standing w _ refl; bounded = E.stored_bounded w _ refl; few = c.loop-moving.self.few }
+    let l = inside c.loop-moving.moving c.place_of-place.ensures.answer in
+    record { long = E.stored-long w _ (written _ _ (omega (arith, l))); standing = E.stored_standing w _ (written _ _ (omega (arith, l))); bounded = E.stored_bounded w _ (written _ _ (omega (arith, l))); few = c.loop-moving.self.few }
 
 pub returns-then-held : goal.returns-then-held
 returns-then-held c =
     let i = c.loop-moving.invariant in
     let w = turn c.loop-moving.self c.loop-moving.moving i c.place_of-place.ensures.answer c.loop-moving-test.true in
-    record { total = E.stored_total w _ refl c.if-held.true ∙ i.total; count = i.counted; kept = i.enters _ (E.stored-enters w _ refl c.if-held.true) }
+    let l = inside c.loop-moving.moving c.place_of-place.ensures.answer in
+    record { total = E.stored_total w _ (written _ _ (omega (arith, l))) c.if-held.true ∙ i.total; count = i.counted; kept = i.enters _ (E.stored-enters w _ (written _ _ (omega (arith, l))) c.if-held.true) }
 
 pub invariant_of-self-in-loop-moving : goal.invariant_of-self-in-loop-moving
 invariant_of-self-in-loop-moving c =
     let w = turn c.loop-moving.self c.loop-moving.moving c.loop-moving.invariant c.place_of-place.ensures.answer c.loop-moving-test.true in
-    record { long = E.paired_long w _ refl; standing = E.paired_standing w _ refl; bounded = E.paired_bounded w _ refl; few = c.loop-moving.self.few }
+    let l = inside c.loop-moving.moving c.place_of-place.ensures.answer in
+    record { long = E.paired_long w _ (written _ _ (omega (arith, l))); standing = E.paired_standing w _ (written _ _ (omega (arith, l))); bounded = E.paired_bounded w _ (written _ _ (omega (arith, l))); few = c.loop-moving.self.few }
 
 pub invariant_of-sum_of_pair : goal.invariant_of-sum_of_pair
 invariant_of-sum_of_pair c = record { finite = E.held-finite (turn c.loop-moving.self c.loop-moving.moving c.loop-moving.invariant c.place_of-place.ensures.answer c.loop-moving-test.true) }
@@ -40,20 +51,22 @@ sum_of_pair-moving-requires c =
 pub loop-moving-smaller : goal.loop-moving-smaller
 loop-moving-smaller c =
     let w = turn c.loop-moving.self c.loop-moving.moving c.loop-moving.invariant c.place_of-place.ensures.answer c.loop-moving-test.true in
-    E.fewer w _ refl c.if-held.false
+    let l = inside c.loop-moving.moving c.place_of-place.ensures.answer in
+    E.fewer w _ (written _ _ (omega (arith, l))) c.if-held.false
 
 pub loop-moving-preserved : goal.loop-moving-preserved
 loop-moving-preserved c =
     let i = c.loop-moving.invariant in
     let w = turn c.loop-moving.self c.loop-moving.moving i c.place_of-place.ensures.answer c.loop-moving-test.true in
+    let l = inside c.loop-moving.moving c.place_of-place.ensures.answer in
     let s = c.sum_of_pair-moving in
     let r = s.ensures in
     record {
       fitting = search rules;
-      within = E.sum_bounded w _ refl c.if-held.false s.result.number r.answer r.value;
+      within = E.sum_bounded w _ (written _ _ (omega (arith, l))) c.if-held.false s.result.number r.answer r.value;
       counted = i.counted;
-      total = E.sum_total w _ refl c.if-held.false s.result.number r.answer r.value ∙ i.total;
-      enters = λ u q. i.enters u (E.sum-enters w _ refl c.if-held.false s.result.number r.answer r.value u q);
+      total = E.sum_total w _ (written _ _ (omega (arith, l))) c.if-held.false s.result.number r.answer r.value ∙ i.total;
+      enters = λ u q. i.enters u (E.sum-enters w _ (written _ _ (omega (arith, l))) c.if-held.false s.result.number r.answer r.value u q);
     }
 
 pub returns : goal.returns
