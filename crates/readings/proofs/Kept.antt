@@ -1,16 +1,22 @@
 -- The digits that a format keeps of a size, found from the number of its bits, and that the pattern fits 64 bits. Assumes nothing.
-use Rattle.std.proofs.Common.{◌≡◌, ℕ, ◌+◌, ◌-◌, ◌*◌, ◌/◌, ◌%◌, ◌^◌, ◌<◌, ◌≤◌, sym, ap, ◌∙◌, subst, le_trans, le_of_eq, lt_of_lt_of_le, mul-le-mul_right, mod-eq_of_lt, mul-le-mul_left, arith, lit≤, pow_mono, shr-shr}
+use Rattle.std.proofs.Common.{◌≡◌, ℕ, ◌+◌, ◌-◌, ◌*◌, ◌/◌, ◌%◌, ◌^◌, ◌<◌, ◌≤◌, List, length, sym, ap, ◌∙◌, subst, le_trans, le_of_eq, lt_of_lt_of_le, mul-le-mul_right, mod-eq_of_lt, mul-le-mul_left, arith, lit≤, pow_mono, shr-shr}
 use lib.Ieee.{Format, binary32, binary64, prec, hid, size}
+use lib.Ieee.Digits.{size-le}
 use lib.Ieee.Fits.{kept-lt}
 use Rattle.readings.specs.Formats.{lowest}
+use Rattle.readings.specs.Limbs.{natural}
 use Rattle.readings.specs.declared.rounding.Mode.{Mode}
 use Rattle.readings.specs.declared.rounding.Remainder.{Remainder}
 use Rattle.readings.specs.Rounded.{dropped, remainder_of, carry, size_pattern}
+use Rattle.readings.proofs.Naturals.{Limbs, natural_lt}
 use Rattle.readings.proofs.Remainders.{size_shr}
 
 pub dropped_is : (f : Format) (n : ℕ) → dropped f n ≡ size n - (lowest f + prec f)
 unfolding dropped
 dropped_is f n = let e = size_shr n (lowest f) in omega arith
+
+pub few_bits : (xs : List ℕ) → Limbs xs → length xs ≤ 33 → size (natural xs) ≤ 2112
+few_bits xs h l = le_trans (size-le (natural xs) (64 * length xs) (natural_lt xs h)) (omega arith)
 
 short : (f : Format) → prec f ≤ 53
 short binary32 = lit≤ tt

@@ -44,7 +44,6 @@ pub record Under (n cut b h m : ℕ) : Type 0 where
   pub is : n % 2 ^ cut ≡ b * h + m
   pub whole : 2 ^ cut ≡ 2 * h
   pub small : m < h
-  pub digit : b < 2
 
 under_suc : (n k : ℕ) → Under n (suc k) (n / 2 ^ k % 2 ^ 64 % 2) (2 ^ k) (n % 2 ^ k)
 under_suc n k =
@@ -54,15 +53,32 @@ under_suc n k =
       is = ap (λ (a : ℕ). n % 2 ^ a) (sym one) ∙ mod-pow-add n 1 k ∙ ap (λ (a : ℕ). a * 2 ^ k + n % 2 ^ k) (sym bit);
       whole = pow-succ' 2 k;
       small = mod-lt n (pow_pos k);
-      digit = omega arith;
     }
 
 pub under : (n cut : ℕ) → cut ≢ 0 → Under n cut (n / 2 ^ (cut - 1) % 2 ^ 64 % 2) (2 ^ (cut - 1)) (n % 2 ^ (cut - 1))
 under n zero h = absurd (h refl)
 under n (suc k) h = let e : k ≡ suc k - 1 = omega arith in subst (λ (j : ℕ). Under n (suc k) (n / 2 ^ j % 2 ^ 64 % 2) (2 ^ j) (n % 2 ^ j)) e (under_suc n k)
 
-digit_zero : (b : ℕ) → b < 2 → eqb b 1 ≡ false → b ≡ 0
-digit_zero b l e = let n = eqb-false b 1 e in omega arith
+-- the four cases
+
+pub above_half : (n cut b h m : ℕ) → Under n cut b h m → b ≡ 1 → 0 < m → AboveHalf ≡ remainder_of (n % 2 ^ cut) (2 ^ cut)
+above_half n cut b h m u e k = let f : b * h ≡ h = ap (λ (a : ℕ). a * h) e ∙ one-mul h in remainder_is AboveHalf (n % 2 ^ cut) (2 ^ cut) (omega arith, omega arith)
+
+pub at_half : (n cut b h m : ℕ) → Under n cut b h m → b ≡ 1 → m ≡ 0 → Half ≡ remainder_of (n % 2 ^ cut) (2 ^ cut)
+at_half n cut b h m u e k = let f : b * h ≡ h = ap (λ (a : ℕ). a * h) e ∙ one-mul h in remainder_is Half (n % 2 ^ cut) (2 ^ cut) (omega arith, omega arith)
+
+pub below_half : (n cut b h m : ℕ) → Under n cut b h m → b ≡ 0 → 0 < m → BelowHalf ≡ remainder_of (n % 2 ^ cut) (2 ^ cut)
+below_half n cut b h m u e k = let f : b * h ≡ 0 = ap (λ (a : ℕ). a * h) e ∙ zero-mul h in remainder_is BelowHalf (n % 2 ^ cut) (2 ^ cut) (omega arith, omega arith)
+
+pub nothing : (n cut b h m : ℕ) → Under n cut b h m → b ≡ 0 → m ≡ 0 → Nothing ≡ remainder_of (n % 2 ^ cut) (2 ^ cut)
+nothing n cut b h m u e k = let f : b * h ≡ 0 = ap (λ (a : ℕ). a * h) e ∙ zero-mul h in remainder_is Nothing (n % 2 ^ cut) (2 ^ cut) (omega arith)
+
+-- a test for more than nothing
+pub some : (m : ℕ) → true ≡ ltb 0 m → 0 < m
+some m e = ltb→lt 0 m (subst T e tt)
+
+pub none : (m : ℕ) → false ≡ ltb 0 m → m ≡ 0
+none m e = let h : m ≤ 0 = nltb→le 0 m (subst (λ (b : Bool). T (not b)) e tt) in omega arith
 
 -- what the bit under the cut says with a test for anything below it
 abbrev pub left : Bool → Bool → Remainder
@@ -71,28 +87,18 @@ left true false = Half
 left false true = BelowHalf
 left false false = Nothing
 
-says_left : (n cut b h m : ℕ) (half rest : Bool) → Under n cut b h m → eqb b 1 ≡ half → rest ≡ ltb 0 m → Says (left half rest) (n % 2 ^ cut) (2 ^ cut)
-says_left n cut b h m true true u e k =
-    let one = ap (λ (a : ℕ). a * h) (eqb-true b 1 e) ∙ one-mul h in
-    let some = ltb→lt 0 m (subst T k tt) in
-    (omega arith, omega arith)
-says_left n cut b h m true false u e k =
-    let one = ap (λ (a : ℕ). a * h) (eqb-true b 1 e) ∙ one-mul h in
-    let none = nltb→le 0 m (subst (λ (c : Bool). T (not c)) k tt) in
-    (omega arith, omega arith)
-says_left n cut b h m false true u e k =
-    let nought = ap (λ (a : ℕ). a * h) (digit_zero b u.digit e) ∙ zero-mul h in
-    let some = ltb→lt 0 m (subst T k tt) in
-    (omega arith, omega arith)
-says_left n cut b h m false false u e k =
-    let nought = ap (λ (a : ℕ). a * h) (digit_zero b u.digit e) ∙ zero-mul h in
-    let none = nltb→le 0 m (subst (λ (c : Bool). T (not c)) k tt) in
-    omega arith
+digit_zero : (b : ℕ) → b < 2 → eqb b 1 ≡ false → b ≡ 0
+digit_zero b l e = let n = eqb-false b 1 e in omega arith
+
+left_under : (n cut b h m : ℕ) (half rest : Bool) → Under n cut b h m → b < 2 → eqb b 1 ≡ half → rest ≡ ltb 0 m → left half rest ≡ remainder_of (n % 2 ^ cut) (2 ^ cut)
+left_under n cut b h m true true u l e k = above_half n cut b h m u (eqb-true b 1 e) (some m k)
+left_under n cut b h m true false u l e k = at_half n cut b h m u (eqb-true b 1 e) (none m k)
+left_under n cut b h m false true u l e k = below_half n cut b h m u (digit_zero b l e) (some m k)
+left_under n cut b h m false false u l e k = nothing n cut b h m u (digit_zero b l e) (none m k)
 
 pub left_is : (n cut r : ℕ) (half rest : Bool) → cut ≢ 0 → r ≡ n / 2 ^ (cut - 1) % 2 ^ 64 → eqb (r % 2) 1 ≡ half → rest ≡ ltb 0 (n % 2 ^ (cut - 1)) → left half rest ≡ remainder_of (n % 2 ^ cut) (2 ^ cut)
 left_is n cut r half rest k bits h z =
-    remainder_is (left half rest) (n % 2 ^ cut) (2 ^ cut)
-    (says_left n cut (n / 2 ^ (cut - 1) % 2 ^ 64 % 2) (2 ^ (cut - 1)) (n % 2 ^ (cut - 1)) half rest (under n cut k) (ap (λ (a : ℕ). eqb (a % 2) 1) (sym bits) ∙ h) z)
+    left_under n cut (n / 2 ^ (cut - 1) % 2 ^ 64 % 2) (2 ^ (cut - 1)) (n % 2 ^ (cut - 1)) half rest (under n cut k) (omega arith) (ap (λ (a : ℕ). eqb (a % 2) 1) (sym bits) ∙ h) z
 
 -- ---- the bits of a number that is cut short
 

@@ -1,5 +1,5 @@
 -- Where a size lies in the grid of a format, and which of its two neighbours each way of rounding a size takes. Assumes nothing.
-use Rattle.std.proofs.Common.{◌≡◌, ℕ, zero, suc, ◌+◌, ◌-◌, ◌*◌, ◌/◌, ◌%◌, ◌^◌, ◌<◌, ◌≤◌, ◌⊎◌, sym, refl, ap, ◌∙◌, subst, inl, inr, le_trans, le_of_eq, le_of_lt, add-suc, mul-le-mul_right, mod-lt, zero-lt-suc, mul_assoc, suc-mul, mul_comm, eq-zero-or-pos, mul-lt-mul_of_pos_right, div-add-mod', le-div_iff_mul-le, zero-mul, arith, pow_pos, pow-add, shr-shr}
+use Rattle.std.proofs.Common.{◌≡◌, ℕ, zero, suc, ◌+◌, ◌-◌, ◌*◌, ◌/◌, ◌%◌, ◌^◌, ◌<◌, ◌≤◌, ◌⊎◌, sym, refl, ap, ◌∙◌, subst, inl, inr, le_trans, le_of_eq, lt_of_lt_of_le, le_of_lt, lt_irrefl, add-suc, mul-le-mul_right, mod-lt, zero-lt-suc, mul_assoc, suc-mul, mul_comm, eq-zero-or-pos, mul-lt-mul_of_pos_right, div-add-mod', le-div_iff_mul-le, zero-mul, arith, pow_pos, pow-add, shr-shr}
 use Prim.Native.Nat.{compare, Ordering}
 use native.Mathlib.Nat.{pow-succ'}
 use native.Mathlib.Omega.{compare-lt, compare-eq, compare-gt}
@@ -29,6 +29,9 @@ grid_le f p c h = mul-le-mul_right (2 ^ lowest f) (magnitude_le (hid f) p c (hid
 pub grid_zero : (f : Format) → grid_size f 0 ≡ 0
 unfolding grid_size
 grid_zero f = ap (λ (a : ℕ). a * 2 ^ lowest f) (magnitude_low (hid f) 0 (hid_pos f)) ∙ zero-mul (2 ^ lowest f)
+
+pub grid_back : (f : Format) (p c : ℕ) → grid_size f p < grid_size f c → p < c
+grid_back f p c h = elim (lt_or_ge p c) [ inl l ↦ l | inr g ↦ absurd (lt_irrefl (grid_size f p) (lt_of_lt_of_le h (grid_le f c p g))) ]
 
 -- ---- the kept digits
 
@@ -140,7 +143,7 @@ lower_finite : (f : Format) (n p r u : ℕ) → Bracket f n p r u → (l : ℕ) 
 lower_finite f n p r u b l h = elim (lt_or_ge l p) [ inl g ↦ let k = grid_lt f l p g in absurd (omega arith) | inr g ↦ g ]
 
 upper_finite : (f : Format) (n p r u : ℕ) → 0 < r → Bracket f n p r u → (l : ℕ) → n ≤ grid_size f l → suc p ≤ l
-upper_finite f n p r u R b l h = elim (lt_or_ge p l) [ inl g ↦ g | inr g ↦ let k = grid_le f l p g in absurd (omega arith) ]
+upper_finite f n p r u R b l h = grid_back f p l (omega arith)
 
 pub tie-one : (q : ℕ) → tie_carry q ≡ 1
 unfolding tie_carry

@@ -7,14 +7,15 @@ use Rattle.numbers.specs.Products.{summand_units}
 use Rattle.numbers.specs.Units.{signed}
 use Rattle.readings.specs.declared.sums.Accumulator.{Accumulator}
 use Rattle.readings.specs.declared.sums.ExactSum.{ExactSum}
+use Rattle.readings.specs.Limbs.{natural}
 
 -- the sum on its way, in units
 abbrev pub accumulated : Accumulator → ℤ
-accumulated a = pos a.above -ℤ pos a.below
+accumulated a = pos (natural a.above.limbs) -ℤ pos (natural a.below.limbs)
 
 -- the whole sum, in units
 abbrev pub sum_value : ExactSum → ℤ
-sum_value s = signed s.negative s.size
+sum_value s = signed s.negative (natural s.size.limbs)
 
 -- a summand is added, and counted, exactly where fewer than 65,536 were taken; otherwise it is refused, with code 4, place 0 and side 0, and nothing changes
 abbrev pub Adds : Accumulator → Summand → Accumulator → Result ⊤ Refusal → Type 0

@@ -74,7 +74,8 @@ fn gathered<C: Condenser>(condenser: &C) -> Accumulator
     for k in 0..condenser.summand_count() {
         let summand = condenser.summand(k);
         if summand.significand != 0 {
-            sum.place(summand);
+            // never refused: a condenser hands out 4,096 summands at most
+            let _ = sum.add(summand);
         }
     }
     sum

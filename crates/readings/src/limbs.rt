@@ -4,8 +4,7 @@ ghost use Rattle.std.specs.Float.Ieee.{size};
 ghost use Rattle.std.specs.Int.{from_bool};
 ghost use Rattle.std.specs.List.{list_any};
 ghost use Rattle.readings.specs.Limbs.{natural, AreLimbs};
-
-use std::marker::Model;
+ghost use Rattle.readings.specs.declared.limbs.TheConstants.{LIMBS};
 
 /// One more than the largest limb.
 const BASE: u128 = 0x1_0000_0000_0000_0000;
@@ -13,32 +12,17 @@ const BASE: u128 = 0x1_0000_0000_0000_0000;
 /// How many limbs a number has.
 const LIMBS: usize = 33;
 
-/// A natural number below 2^2112.
+/// A natural number below 2^2112. It has no `impl Model`, so that what holds it is copied by value; clauses speak of its limbs.
 #[derive(Clone, Copy)]
 pub(crate) struct Natural {
     limbs: [u64; LIMBS],
-}
-
-impl Model for Natural {
-    ghost use Rattle.std.specs.Prelude.{ℕ};
-    ghost use Rattle.readings.specs.Limbs.{natural, AreLimbs, limbs_of, limbs_of-natural};
-    ghost use Rattle.readings.specs.declared.limbs.TheConstants.{LIMBS};
-
-    ghost Value = { ℕ };
-
-    ghost view = { λ n. natural n.limbs };
-
-    ghost invariant = { λ n. AreLimbs LIMBS n.limbs };
-
-    ghost inverse = { λ n. record { limbs = limbs_of LIMBS n } };
-
-    ghost inverse_ok = { λ n h i. record { limbs = limbs_of-natural LIMBS n.limbs h i } };
+    ghost fit: { AreLimbs LIMBS limbs },
 }
 
 impl Natural {
     /// The number 0.
     pub(crate) fn zero() -> Natural
-        ensures value { result ≡ 0 }
+        ensures value { natural result.limbs ≡ 0 }
     {
         Natural { limbs: [0; LIMBS] }
     }
@@ -46,8 +30,8 @@ impl Natural {
     /// Adds significand × 2^shift, which has room.
     pub(crate) fn add_shifted(&mut self, significand: u64, shift: u32)
         requires reach { shift < 64 * LIMBS }
-        requires room { self.old + significand * 2 ^ shift < 2 ^ (64 * LIMBS) }
-        ensures value { self.new ≡ self.old + significand * 2 ^ shift }
+        requires room { natural self.old.limbs + significand * 2 ^ shift < 2 ^ (64 * LIMBS) }
+        ensures value { natural self.new.limbs ≡ natural self.old.limbs + significand * 2 ^ shift }
     {
         let at = (shift / 64) as usize;
         let _ = add(&mut self.limbs[at..], (significand as u128) << (shift % 64));
@@ -55,7 +39,7 @@ impl Natural {
 
     /// The number less another, or none where the other is larger.
     pub(crate) fn checked_sub(&self, other: &Natural) -> Option<Natural>
-        ensures value { MatchOption result (self.now < other.now) (λ rest. rest + other.now ≡ self.now) }
+        ensures value { MatchOption result (natural self.now.limbs < natural other.now.limbs) (λ rest. natural rest.limbs + natural other.now.limbs ≡ natural self.now.limbs) }
     {
         let mut rest = self.limbs;
         if subtract(&mut rest, &other.limbs) {
@@ -66,7 +50,7 @@ impl Natural {
 
     /// How many bits the number has: none for zero.
     pub(crate) fn bit_length(&self) -> u32
-        ensures answer { result ≡ size self.now }
+        ensures answer { result ≡ size (natural self.now.limbs) }
         ensures limits { result ≤ 64 * LIMBS }
     {
         match self.limbs.iter().rposition(|limb| *limb != 0) {
@@ -77,7 +61,7 @@ impl Natural {
 
     /// The 64 bits from the bit `cut` up.
     pub(crate) fn bits_from(&self, cut: u32) -> u64
-        ensures answer { result ≡ self.now / 2 ^ cut % 2 ^ 64 }
+        ensures answer { result ≡ natural self.now.limbs / 2 ^ cut % 2 ^ 64 }
     {
         let at = (cut / 64) as usize;
         let pair = limb(&self.limbs, at + 1) as u128 * BASE + limb(&self.limbs, at) as u128;
@@ -86,7 +70,7 @@ impl Natural {
 
     /// Whether anything but zero lies below the bit `cut`.
     pub(crate) fn any_below(&self, cut: u32) -> bool
-        ensures answer { result ≡ nat_lt 0 (self.now % 2 ^ cut) }
+        ensures answer { result ≡ nat_lt 0 (natural self.now.limbs % 2 ^ cut) }
     {
         let at = (cut / 64) as usize;
         any_set(&self.limbs, at) || limb(&self.limbs, at) % (1 << (cut % 64)) != 0

@@ -4,6 +4,7 @@ ghost use Rattle.std.specs.Float.{binary32, binary64};
 ghost use Rattle.std.specs.Float.Ieee.{top};
 ghost use Rattle.numbers.specs.Units.{signed};
 ghost use Rattle.readings.specs.Formats.{Encodes, format_of, largest};
+ghost use Rattle.readings.specs.Limbs.{natural};
 ghost use Rattle.readings.specs.Readings.{Reads, ReadsIn};
 ghost use Rattle.readings.specs.Rounding.{Rounds};
 ghost use Rattle.readings.specs.Sums.{sum_value};
@@ -38,7 +39,7 @@ fn significand_of(pattern: u64) -> (u64, u32)
 fn pattern_sum(pattern: u64) -> ExactSum
     requires { pattern % 2 ^ 63 ≤ SHORT_LARGEST }
     ensures value { Encodes binary64 pattern (sum_value result) }
-    ensures limits { result.size ≤ largest binary32 }
+    ensures limits { natural result.size.limbs ≤ largest binary32 }
 {
     let (significand, shift) = significand_of(pattern);
     let mut size = Natural::zero();
@@ -81,7 +82,7 @@ fn shortened(long: u64, direction: Direction) -> Result<u64, Refusal>
 impl ExactSum {
     /// The pattern of the sum in a width that has room for it.
     fn pattern(&self, width: Width, direction: Direction) -> u64
-        requires { self.now.size ≤ largest (format_of width) }
+        requires { natural self.now.size.limbs ≤ largest (format_of width) }
         ensures answer { Rounds (format_of width) direction (sum_value self.now) result }
     {
         let size = size_pattern(&self.size, width, size_mode(direction, self.negative));

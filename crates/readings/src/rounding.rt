@@ -2,6 +2,7 @@
 ghost use Rattle.std.specs.Prelude.{◌≡◌, ◌+◌, ◌-◌, ◌*◌, ◌%◌, ◌^◌, ◌<◌, ◌≤◌};
 ghost use Rattle.std.specs.Float.Ieee.{hid};
 ghost use Rattle.readings.specs.Formats.{format_of};
+ghost use Rattle.readings.specs.Limbs.{natural};
 ghost use Rattle.readings.specs.Rounded.{mode_of, remainder_of, tie_carry, carry, size_pattern};
 
 use crate::forms::{Direction, Width};
@@ -41,7 +42,7 @@ pub(crate) fn size_mode(direction: Direction, negative: bool) -> Mode
 
 /// What is left of the number below the bit `cut`.
 fn left_below(size: &Natural, cut: u32) -> Remainder
-    ensures answer { result ≡ remainder_of (size.now % 2 ^ cut) (2 ^ cut) }
+    ensures answer { result ≡ remainder_of (natural size.now.limbs % 2 ^ cut) (2 ^ cut) }
 {
     if cut == 0 {
         return Remainder::Nothing;
@@ -90,7 +91,7 @@ fn joined(width: Width, dropped: u64, digits: u64) -> u64
 /// The pattern of a size, without a sign. The exponent's field counts the dropped digits; the leading digit adds one to it, and so does a carry
 /// out of the digits.
 pub(crate) fn size_pattern(size: &Natural, width: Width, mode: Mode) -> u64
-    ensures answer { result ≡ size_pattern (format_of width) mode size.now }
+    ensures answer { result ≡ size_pattern (format_of width) mode (natural size.now.limbs) }
 {
     let precision = width.precision();
     let lowest = width.lowest();

@@ -2,7 +2,7 @@
 ghost use Rattle.std.specs.Prelude.{◌≡◌, ◌*◌, ◌≤◌, false};
 ghost use Rattle.std.specs.Float.{binary64};
 ghost use Rattle.readings.specs.Formats.{largest};
-ghost use Rattle.readings.specs.Limbs.{summand_limit};
+ghost use Rattle.readings.specs.Limbs.{natural, summand_limit};
 ghost use Rattle.readings.specs.declared.sums.TheConstants.{CAPACITY};
 
 use crate::limbs::Natural;
@@ -17,8 +17,8 @@ pub struct Accumulator {
     pub(crate) below: Natural,
     pub(crate) taken: u32,
     ghost few: { taken ≤ CAPACITY },
-    ghost above_bounded: { above ≤ taken * summand_limit },
-    ghost below_bounded: { below ≤ taken * summand_limit },
+    ghost above_bounded: { natural above.limbs ≤ taken * summand_limit },
+    ghost below_bounded: { natural below.limbs ≤ taken * summand_limit },
 }
 
 /// A whole sum: its sign and its size, which is within binary64. Zero has a plus.
@@ -26,6 +26,6 @@ pub struct Accumulator {
 pub struct ExactSum {
     pub(crate) negative: bool,
     pub(crate) size: Natural,
-    ghost bounded: { size ≤ largest binary64 },
-    ghost plus: { size ≡ 0 → negative ≡ false },
+    ghost bounded: { natural size.limbs ≤ largest binary64 },
+    ghost plus: { natural size.limbs ≡ 0 → negative ≡ false },
 }

@@ -1,13 +1,15 @@
 -- Each summand goes from what is still to come to what was added; a zero one changes nothing, and no condenser hands out too many.
-use Rattle.std.proofs.Common.{◌≡◌, ℕ, ◌+◌, ◌*◌, ◌^◌, ◌<◌, ◌≤◌, Bool, true, false, List, length, drop, ℤ, pos, ◌+ℤ◌, sym, refl, ap, ◌∙◌, subst, zero-mul, arith}
+use Rattle.std.proofs.Common.{◌≡◌, ℕ, ◌+◌, ◌*◌, ◌^◌, ◌<◌, ◌≤◌, Bool, true, false, Result, Ok, Err, List, length, drop, ℤ, pos, ◌+ℤ◌, sym, refl, ap, ◌∙◌, subst, zero-mul, arith}
+use Rattle.std.specs.Prelude.{⊤}
 use lib.IntN.{+ℤ_assoc, +ℤ_idl, +ℤ_idr}
 use Rattle.std.proofs.lemmas.List.{drop_more, drop_all}
 use Rattle.numbers.specs.declared.piece.Summand.{Summand}
+use Rattle.numbers.specs.declared.refusal.Refusal.{Refusal}
 use Rattle.numbers.specs.Products.{summand_units}
 use Rattle.numbers.specs.Units.{units, signed, rank}
 use Rattle.condensers.specs.Meaning.{sum_units, StandsAt}
 use Rattle.readings.specs.declared.sums.Accumulator.{Accumulator}
-use Rattle.readings.specs.Sums.{accumulated}
+use Rattle.readings.specs.Sums.{accumulated, Adds}
 use Rattle.readings.proofs.accumulate.gathered.Goals as goal
 use Rattle.readings.proofs.accumulate.gathered.Goals.{then-summand-ne0, else-summand-ne0}
 
@@ -23,11 +25,14 @@ zero-units s z = ap (λ (a : ℕ). signed s.negative (a * 2 ^ rank s.exponent)) 
     none true = refl
     none false = refl
 
--- one summand, placed
-placed : (a b : Accumulator) (s : Summand) (k : ℕ) (rest rest' t : ℤ) → b.taken ≡ a.taken + 1 → accumulated b ≡ accumulated a +ℤ summand_units s → a.taken ≤ k → rest ≡ summand_units s +ℤ rest' → accumulated a +ℤ rest ≡ t
+-- one summand, taken
+taken : (r : Result ⊤ Refusal) (a b : Accumulator) (s : Summand) (k : ℕ) (rest rest' t : ℤ) → Adds a s b r → a.taken ≤ k → k < 4096 → rest ≡ summand_units s +ℤ rest' → accumulated a +ℤ rest ≡ t
     → (accumulated b +ℤ rest' ≡ t) × (b.taken ≤ k + 1)
-placed a b s k rest rest' t v u few e inv =
+taken (Ok done) a b s k rest rest' t h few l e inv =
+    let u = h.2 in
+    let v = h.1 in
     (ap (λ (x : ℤ). x +ℤ rest') u ∙ +ℤ_assoc (accumulated a) (summand_units s) rest' ∙ ap (λ (x : ℤ). accumulated a +ℤ x) (sym e) ∙ inv, omega arith)
+taken (Err x) a b s k rest rest' t h few l e inv = let u = h.0 in absurd (omega arith)
 
 pub loop-k-init : goal.loop-k-init
 loop-k-init g c =
@@ -55,7 +60,7 @@ loop-k-preserved g c =
     let t = g.C.Condenser.total x in
     elim c.if-summand-ne0.branch [
       | then-summand-ne0 w ↦ subst (λ (a : Accumulator). (accumulated a +ℤ sum_units (drop (k + 1) ss) ≡ t) × (a.taken ≤ k + 1)) (sym w.sum-is)
-          (placed c.loop-k.sum w.place.new.self s k (sum_units (drop k ss)) (sum_units (drop (k + 1) ss)) t w.place.ensures.count w.place.ensures.value c.loop-k.invariant.1 n c.loop-k.invariant.0)
+          (taken w.add.result c.loop-k.sum w.add.new.self s k (sum_units (drop k ss)) (sum_units (drop (k + 1) ss)) t w.add.ensures.after c.loop-k.invariant.1 (omega arith) n c.loop-k.invariant.0)
       | else-summand-ne0 w ↦ passed c.loop-k.sum c.if-summand-ne0.sum s k (sum_units (drop k ss)) (sum_units (drop (k + 1) ss)) t w.sum-is w.if-summand-ne0.false c.loop-k.invariant.1 n c.loop-k.invariant.0
     ]
 

@@ -3,6 +3,7 @@ use Rattle.std.proofs.Common.{◌≡◌, ℕ, ◌+◌, ◌*◌, ◌^◌, ◌<◌
 use lib.Ieee.{binary32, binary64}
 use Rattle.numbers.specs.Units.{signed}
 use Rattle.readings.specs.Formats.{Encodes, largest}
+use Rattle.readings.specs.Limbs.{natural}
 use Rattle.readings.proofs.Widths.{strict, short-long, short-room}
 use Rattle.readings.proofs.reading.pattern_sum.Goals as goal
 
@@ -15,7 +16,7 @@ add_shifted-requires c =
     let r = c.significand_of-significand.result in
     record {
       reach = omega (arith, c.significand_of-significand.ensures.limits.0);
-      room = room c.zero-size.result (r.0 * 2 ^ r.1) c.zero-size.ensures.value c.significand_of-significand.ensures.limits.1;
+      room = room (natural c.zero-size.result.limbs) (r.0 * 2 ^ r.1) c.zero-size.ensures.value c.significand_of-significand.ensures.limits.1;
     }
 
 -- what the limbs hold, of a pattern b and its size m
@@ -30,11 +31,11 @@ held b m n z e l o h =
 pub invariant_of-result : goal.invariant_of-result
 invariant_of-result c =
     let r = c.significand_of-significand.result in
-    let h = held c.args.pattern (r.0 * 2 ^ r.1) c.add_shifted.new.self c.zero-size.result c.significand_of-significand.ensures.value c.significand_of-significand.ensures.limits.1 c.zero-size.ensures.value c.add_shifted.ensures.value in
+    let h = held c.args.pattern (r.0 * 2 ^ r.1) (natural c.add_shifted.new.self.limbs) (natural c.zero-size.result.limbs) c.significand_of-significand.ensures.value c.significand_of-significand.ensures.limits.1 c.zero-size.ensures.value c.add_shifted.ensures.value in
     record { bounded = h.1; plus = h.2 }
 
 pub returns : goal.returns
 returns c =
     let r = c.significand_of-significand.result in
-    let h = held c.args.pattern (r.0 * 2 ^ r.1) c.add_shifted.new.self c.zero-size.result c.significand_of-significand.ensures.value c.significand_of-significand.ensures.limits.1 c.zero-size.ensures.value c.add_shifted.ensures.value in
+    let h = held c.args.pattern (r.0 * 2 ^ r.1) (natural c.add_shifted.new.self.limbs) (natural c.zero-size.result.limbs) c.significand_of-significand.ensures.value c.significand_of-significand.ensures.limits.1 c.zero-size.ensures.value c.add_shifted.ensures.value in
     record { value = h.3; limits = h.0 }

@@ -5,6 +5,7 @@ use Rattle.numbers.specs.declared.refusal.Refusal.{Refusal}
 use Rattle.numbers.specs.Refusals.{code_of, side_of}
 use Rattle.numbers.proofs.Window.{size-signed}
 use Rattle.readings.specs.Formats.{largest}
+use Rattle.readings.specs.Limbs.{natural}
 use Rattle.readings.specs.Sums.{sum_value}
 use Rattle.readings.proofs.Widths.{too_large, short_limit_lem}
 use Rattle.readings.proofs.reading.shortened.Goals as goal
@@ -27,7 +28,7 @@ returns-then-passes_short c =
 pub returns : goal.returns
 returns c =
     let s = c.pattern_sum.result in
-    let small : nat_abs (sum_value s) ≤ largest binary32 = le_trans (le_of_eq (size-signed s.negative s.size)) c.pattern_sum.ensures.limits in
+    let small : nat_abs (sum_value s) ≤ largest binary32 = le_trans (le_of_eq (size-signed s.negative (natural s.size.limbs))) c.pattern_sum.ensures.limits in
     record {
       answer = λ x l. record {
         pattern = c.args.long;

@@ -8,13 +8,13 @@ use Rattle.readings.proofs.limbs.Natural.any_below.Goals as goal
 
 pub returns-then-any_set : goal.returns-then-any_set
 returns-then-any_set c =
-    let xs = c.self.inside.limbs in
+    let xs = c.args.self.now.limbs in
     let at = c.args.cut / 64 in
     let low : 0 < natural (take at xs) = ltb→lt 0 (natural (take at xs)) (subst T (c.if-any_set.ensures.answer ∙ any_limb (take at xs)) tt) in
-    let e = below_is xs c.args.cut c.self.invariant.1 in
+    let e = below_is xs c.args.cut c.args.self.now.fit.1 in
     let some : 0 < natural xs % 2 ^ c.args.cut = omega arith in
     record {
-      answer = c.if-any_set.true ∙ sym (is_true (ltb 0 (natural xs % 2 ^ c.args.cut)) (lt→ltb 0 (natural xs % 2 ^ c.args.cut) some)) ∙ ap (λ (a : ℕ). ltb 0 (a % 2 ^ c.args.cut)) c.self.view_is;
+      answer = c.if-any_set.true ∙ sym (is_true (ltb 0 (natural xs % 2 ^ c.args.cut)) (lt→ltb 0 (natural xs % 2 ^ c.args.cut) some));
     }
 
 decides : (n d w m : ℕ) → n ≡ d * w + m → m ≡ 0 → 0 < w → not (eqb d 0) ≡ ltb 0 n
@@ -26,7 +26,7 @@ decides n d w m e z W =
 
 pub returns-else-any_set : goal.returns-else-any_set
 returns-else-any_set c =
-    let xs = c.self.inside.limbs in
+    let xs = c.args.self.now.limbs in
     let cut = c.args.cut in
     let at = cut / 64 in
     let o = cut % 64 in
@@ -37,6 +37,5 @@ returns-else-any_set c =
     record {
       answer =
           ap (λ (a : ℕ). not (eqb a 0)) d
-          ∙ decides (natural xs % 2 ^ cut) (get_or xs at 0 % 2 ^ o) (2 ^ (64 * at)) (natural (take at xs)) (below_is xs cut c.self.invariant.1) none (pow_pos (64 * at))
-          ∙ ap (λ (a : ℕ). ltb 0 (a % 2 ^ cut)) c.self.view_is;
+          ∙ decides (natural xs % 2 ^ cut) (get_or xs at 0 % 2 ^ o) (2 ^ (64 * at)) (natural (take at xs)) (below_is xs cut c.args.self.now.fit.1) none (pow_pos (64 * at));
     }

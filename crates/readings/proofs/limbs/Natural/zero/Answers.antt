@@ -9,7 +9,7 @@ small (suc k) zero = lit< tt
 small (suc k) (suc i) = small k i
 
 pub invariant_of-result : goal.invariant_of-result
-invariant_of-result c = (refl, λ i. small 33 i)
+invariant_of-result c = record { fit = (refl, λ i. small 33 i) }
 
 pub returns : goal.returns
 unfolding natural

@@ -3,6 +3,7 @@ use Rattle.std.proofs.Common.{◌≡◌, ℕ, ◌+◌, ◌^◌, ◌<◌, ◌≤�
 use lib.Ieee.{top}
 use Rattle.numbers.proofs.Window.{size-signed}
 use Rattle.readings.specs.Formats.{format_of, largest}
+use Rattle.readings.specs.Limbs.{natural}
 use Rattle.readings.specs.Rounded.{size_pattern, rounded}
 use Rattle.readings.specs.Rounding.{Rounds}
 use Rattle.readings.specs.Sums.{sum_value}
@@ -14,14 +15,14 @@ use Rattle.readings.proofs.sums.ExactSum.pattern.Goals as goal
 pub with_sign-requires : goal.with_sign-requires
 with_sign-requires c =
     let f = format_of c.args.width in
-    subst (λ (a : ℕ). top f + a < 2 ^ 64) (sym c.size_pattern-size.ensures.answer) (signed_fits f c.size_mode.result c.args.self.now.size c.requires)
+    subst (λ (a : ℕ). top f + a < 2 ^ 64) (sym c.size_pattern-size.ensures.answer) (signed_fits f c.size_mode.result (natural c.args.self.now.size.limbs) c.requires)
 
 pub returns : goal.returns
 returns c =
     let f = format_of c.args.width in
     let s = c.args.self.now in
     let d = c.args.direction in
-    let n = s.size in
+    let n = natural s.size.limbs in
     let small : nat_abs (sum_value s) ≤ largest f = le_trans (le_of_eq (size-signed s.negative n)) c.requires in
     let is : c.with_sign.result ≡ rounded f d (sum_value s) =
     c.with_sign.ensures.answer
