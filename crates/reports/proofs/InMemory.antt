@@ -10,9 +10,10 @@ use Rattle.sheets.specs.Outputs.{handed}
 use Rattle.sheets.specs.Reports.{refused_report, sum_report}
 use Rattle.sheets.specs.Splitting.{ended, longer, sheet_lines}
 use Rattle.sheets.proofs.Outputs.{handed_fits, handed-short}
+use Rattle.reports.specs.declared.sheet.RefusedLine.{RefusedLine}
 use Rattle.runs.specs.Bags.{exact_sum}
 use Rattle.reports.specs.InMemory.{refused_reports, SheetReport, Filled, Appends}
-use Rattle.reports.specs.Sheets.{LineRefusal, refusals, lines_bag}
+use Rattle.reports.specs.Sheets.{refusals, lines_bag}
 use Rattle.reports.proofs.Standing.{left_is}
 
 -- a slice keeps its length when a text is handed to it
@@ -85,14 +86,14 @@ pub filled_none : (out : List ℕ) → Filled [] out out 0
 filled_none out = record { end_is = refl; same = refl; bytes = λ _. refl }
 
 -- the reports of lines that follow each other
-pub reports_join : (ls ms : List LineRefusal) → refused_reports (ls ++ ms) ≡ refused_reports ls ++ refused_reports ms
+pub reports_join : (ls ms : List RefusedLine) → refused_reports (ls ++ ms) ≡ refused_reports ls ++ refused_reports ms
 unfolding refused_reports
 reports_join [] ms = refl
 reports_join (l ∷ ls) ms =
     ap (λ (t : List ℕ). refused_report l.line l.code l.place ++ t) (reports_join ls ms) ∙ sym (append_assoc (refused_report l.line l.code l.place) (refused_reports ls) (refused_reports ms))
 
-pub filled_more : (ls ms : List LineRefusal) (out before out' : List ℕ) (end end' : ℕ) → Filled (refused_reports ls) before out end → Appends (refused_reports ms) out end out' end'
-    → (all : List LineRefusal) → all ≡ ls ++ ms → Filled (refused_reports all) before out' end'
+pub filled_more : (ls ms : List RefusedLine) (out before out' : List ℕ) (end end' : ℕ) → Filled (refused_reports ls) before out end → Appends (refused_reports ms) out end out' end'
+    → (all : List RefusedLine) → all ≡ ls ++ ms → Filled (refused_reports all) before out' end'
 filled_more ls ms out before out' end end' f a all e =
     subst (λ (t : List ℕ). Filled t before out' end') (sym (ap refused_reports e ∙ reports_join ls ms)) (a (refused_reports ls) before f)
 

@@ -1,5 +1,5 @@
 -- A sheet's run holds the bag of its lines, and each refused line is found under its number. Assumes nothing.
-use Rattle.std.proofs.Common.{◌≡◌, ℕ, zero, suc, ◌+◌, ◌-◌, ◌^◌, ◌<◌, Bool, true, false, cond, eqb, List, [], ◌∷◌, ◌++◌, map, length, take, drop, Some, None, Ok, Err, Option, sym, refl, ap, ◌∙◌, subst, ap₂, append_assoc, append-nil, take-append-drop, add_comm, arith, length-append, length-drop, take_all}
+use Rattle.std.proofs.Common.{◌≡◌, ℕ, zero, suc, ◌+◌, ◌-◌, ◌^◌, ◌<◌, Bool, true, false, cond, eqb, List, [], ◌∷◌, ◌++◌, map, length, take, drop, Some, None, Ok, Err, Option, sym, refl, ap, ◌∙◌, subst, append_assoc, append-nil, take-append-drop, add_comm, arith, length-append, length-drop, take_all}
 use mathlib.Core.List.{map-append}
 use Rattle.std.proofs.lemmas.Bool.{cond-true, cond-false, eqb-true}
 use Rattle.condensers.specs.declared.condenser.Condenser.{Ghosts as Condenser}
@@ -56,11 +56,11 @@ module _ {C : Type 0} (m : Condenser C) (before after : C) (line : List ℕ) (n 
       go accepted s = refl
       go (refused code place side) s = absurd s
 
-  pub enters_err : (e : Refusal) → Made m before after (line_call line) (Err e) → (r : RefusedLine) → r.line ≡ n → r.refusal ≡ e → Enters m bag line n after (Some r)
-  enters_err e made r number refusal =
+  pub enters_err : (e : Refusal) → Made m before after (line_call line) (Err e) → (r : RefusedLine) → r.line ≡ n → r.code ≡ code_of e.reason → r.place ≡ e.place → r.side ≡ side_of e.side → Enters m bag line n after (Some r)
+  enters_err e made r number code place side =
       record {
         holds = made_holds m before after (line_call line) (Err e) bag made h;
-        refused_is = ap₂ (λ (k : ℕ) (x : Refusal). record { line = k; code = code_of x.reason; place = x.place; side = side_of x.side } ∷ []) number refusal ∙ subst (λ (k : ℕ). (record { line = n; code = code_of e.reason; place = e.place; side = side_of e.side } ∷ []) ≡ refused_as n (call_outcome m.capacity k (line_call line))) h.count_is (go (call_outcome m.capacity (m.count before) (line_call line)) made.answer);
+        refused_is = (λ i. record { line = number i; code = code i; place = place i; side = side i } ∷ []) ∙ subst (λ (k : ℕ). (record { line = n; code = code_of e.reason; place = e.place; side = side_of e.side } ∷ []) ≡ refused_as n (call_outcome m.capacity k (line_call line))) h.count_is (go (call_outcome m.capacity (m.count before) (line_call line)) made.answer);
       }
     where
       go : (o : Outcome) → Says o (Err e) → (record { line = n; code = code_of e.reason; place = e.place; side = side_of e.side } ∷ []) ≡ refused_as n o

@@ -9,10 +9,11 @@ use Rattle.sheets.specs.Outputs.{handed}
 use Rattle.sheets.specs.Reports.{refused_report, sum_report}
 use Rattle.sheets.specs.Splitting.{sheet_lines}
 use Rattle.runs.specs.Bags.{exact_sum}
-use Rattle.reports.specs.Sheets.{LineRefusal, refusals, lines_bag}
+use Rattle.reports.specs.declared.sheet.RefusedLine.{RefusedLine}
+use Rattle.reports.specs.Sheets.{refusals, lines_bag}
 
 -- the reports of refused lines, one behind the other
-unfoldable pub refused_reports : List LineRefusal → List ℕ
+unfoldable pub refused_reports : List RefusedLine → List ℕ
 refused_reports [] = []
 refused_reports (l ∷ ls) = refused_report l.line l.code l.place ++ refused_reports ls
 

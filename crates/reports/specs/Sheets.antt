@@ -3,7 +3,6 @@ use Rattle.std.specs.Prelude.{◌≡◌, ℕ, ◌+◌, List, [], ◌∷◌, ◌+
 use Rattle.std.specs.Float.{binary64}
 use Rattle.condensers.specs.declared.condenser.Condenser.{Ghosts as Condenser}
 use Rattle.numbers.specs.declared.refusal.Refusal.{Refusal}
-use Rattle.numbers.specs.Refusals.{code_of, side_of}
 use Rattle.readings.specs.declared.forms.Direction.TheVariants.{Nearest}
 use Rattle.readings.specs.Rounding.{Rounds}
 use Rattle.sheets.specs.Outputs.{Fits, handed}
@@ -19,34 +18,27 @@ use Rattle.reports.specs.declared.sheet.Sheet.{Sheet}
 abbrev pub line_call : List ℕ → ValueCall
 line_call line = sheet_line (line_reading line)
 
--- a refused line: its number, counted from 1, and the code, the place and the side of the refusal
-pub record LineRefusal : Type 0 where
-  pub line : ℕ
-  pub code : ℕ
-  pub place : ℕ
-  pub side : ℕ
-
 -- the line with the number n, where it is refused
-abbrev pub refused_as : ℕ → Outcome → List LineRefusal
+abbrev pub refused_as : ℕ → Outcome → List RefusedLine
 refused_as n accepted = []
 refused_as n (refused code place side) = record { line = n; code = code; place = place; side = side } ∷ []
 
 -- the refused lines among some lines, of which the first has the number n, where the bag of those before them is given
-unfoldable pub refusals_from : ℕ → List Entry → ℕ → List (List ℕ) → List LineRefusal
+unfoldable pub refusals_from : ℕ → List Entry → ℕ → List (List ℕ) → List RefusedLine
 refusals_from capacity bag n [] = []
 refusals_from capacity bag n (l ∷ ls) = refused_as n (call_outcome capacity (length bag) (line_call l)) ++ refusals_from capacity (bag_after capacity bag (line_call l)) (n + 1) ls
 
 -- the refused lines, and the bag, of a list of lines
-abbrev pub refusals : ℕ → List (List ℕ) → List LineRefusal
+abbrev pub refusals : ℕ → List (List ℕ) → List RefusedLine
 refusals capacity lines = refusals_from capacity [] 1 lines
 
 abbrev pub lines_bag : ℕ → List (List ℕ) → List Entry
 lines_bag capacity lines = bag_of capacity (map line_call lines)
 
 -- the lines that a call found refused: none or one
-abbrev pub listed : Option RefusedLine → List LineRefusal
+abbrev pub listed : Option RefusedLine → List RefusedLine
 listed None = []
-listed (Some l) = record { line = l.line; code = code_of l.refusal.reason; place = l.refusal.place; side = side_of l.refusal.side } ∷ []
+listed (Some l) = l ∷ []
 
 -- The sheet after the bytes of its beginning, however they were cut: its lines up to there, and a run that holds the bag of those that were ended.
 pub record Stands {C : Type 0} (m : Condenser C) (past : List ℕ) (s : Sheet C) : Type 0 where

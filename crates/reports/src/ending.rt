@@ -2,7 +2,6 @@
 ghost use Rattle.std.specs.Prelude.{◌≡◌, length};
 ghost use Rattle.sheets.specs.Outputs.{Fits, handed};
 ghost use Rattle.sheets.specs.Reports.{refused_report};
-ghost use Rattle.numbers.specs.Refusals.{code_of};
 ghost use Rattle.std.specs.Float.{binary64};
 ghost use Rattle.readings.specs.declared.forms.Direction.TheVariants.{Nearest};
 ghost use Rattle.readings.specs.Rounding.{Rounds};
@@ -19,11 +18,10 @@ use sheets::reports::{write_refused, write_sum};
 impl RefusedLine {
     /// The report of the line.
     pub fn write(self, out: &mut [u8]) -> Result<usize, Refusal>
-        ensures answer { Fits (refused_report self.line (code_of self.refusal.reason) self.refusal.place) (length out.old) result }
-        ensures bytes { out.new ≡ handed (refused_report self.line (code_of self.refusal.reason) self.refusal.place) out.old }
+        ensures answer { Fits (refused_report self.line self.code self.place) (length out.old) result }
+        ensures bytes { out.new ≡ handed (refused_report self.line self.code self.place) out.old }
     {
-        let Refusal { reason, place, .. } = self.refusal;
-        write_refused(self.line, reason.code(), place, out)
+        write_refused(self.line, self.code, self.place, out)
     }
 }
 

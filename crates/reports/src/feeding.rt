@@ -100,7 +100,9 @@ fn enter_held<C: Condenser + Drop>(run: &mut Open<C>, lines: &Splitter) -> Optio
         Ok(()) => None,
         Err(refusal) => Some(RefusedLine {
             line: lines.number(),
-            refusal,
+            code: refusal.reason.code(),
+            place: refusal.place,
+            side: refusal.side.number(),
         }),
     }
 }

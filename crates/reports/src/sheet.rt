@@ -1,5 +1,4 @@
 //! A sheet under way: the run that its lines enter, and the line that is not ended yet.
-use numbers::refusal::Refusal;
 use runs::run::Open;
 use sheets::splitter::Splitter;
 
@@ -10,11 +9,13 @@ pub struct Sheet<C> {
     pub(crate) lines: Splitter,
 }
 
-/// A line that was refused: its number, counted from 1, and the refusal.
+/// A line that was refused: its number, counted from 1, and the code, the place and the side of the refusal.
 #[derive(Clone, Copy, PartialEq, Eq, Debug)]
 pub struct RefusedLine {
     pub line: u64,
-    pub refusal: Refusal,
+    pub code: u64,
+    pub place: u64,
+    pub side: u64,
 }
 
 /// What feeding a chunk did: how many of its bytes were taken, and the line that they ended, if it was refused.

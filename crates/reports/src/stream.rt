@@ -7,7 +7,7 @@ ghost use Rattle.reports.specs.Sheets.{lines_bag, Stands};
 use crate::ending::write_total;
 use crate::feeding::Finished;
 use crate::sheet::{Fed, RefusedLine, Sheet};
-use anyhow::Context;
+use anyhow::anyhow;
 use condensers::condenser::Condenser;
 use numbers::refusal::Refusal;
 use runs::run::Sealed;
@@ -57,6 +57,8 @@ fn report_line<W: Write>(refused: Option<RefusedLine>, out: &mut W) -> anyhow::R
 }
 
 /// The report that is composed in a slice.
+// not inlined: its locals are cleared where it is entered, which is to be paid for a report alone, and not for an accepted line
+#[inline(never)]
 fn write_report<W: Write, F: FnOnce(&mut [u8]) -> Result<usize, Refusal>>(
     out: &mut W,
     compose: F,
@@ -64,7 +66,12 @@ fn write_report<W: Write, F: FnOnce(&mut [u8]) -> Result<usize, Refusal>>(
     requires { F.IsAlwaysCallable compose }
 {
     let mut text = [0; ROOM];
-    let length = compose(&mut text).context("no room for the report")?;
-    out.write_all(text.get(..length).context("no room for the report")?)?;
+    let Some(report) = compose(&mut text)
+        .ok()
+        .and_then(|length| text.get(..length))
+    else {
+        return Err(anyhow!("no room for the report"));
+    };
+    out.write_all(report)?;
     Ok(())
 }

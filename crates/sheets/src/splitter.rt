@@ -1,4 +1,6 @@
 //! The line splitter: it is fed a sheet in chunks, cut anywhere, and holds one line at a time.
+ghost use Rattle.std.specs.Prelude.{◌≤◌, length};
+
 mod feed;
 
 use arrayvec::ArrayVec;
@@ -10,4 +12,5 @@ pub struct Splitter {
     bytes: ArrayVec<u8, 40>,
     number: u64,
     complete: bool,
+    ghost fits: { length bytes.items ≤ 40 },
 }

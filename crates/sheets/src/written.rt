@@ -196,7 +196,12 @@ fn read_size(bytes: &[u8]) -> Numeral
 fn count_of(negative: bool, size: u64) -> Option<i32>
     ensures answer { Within 32 (with_sign negative size) result }
 {
+    let limit = 1i64 << (Counts::WIDTH - 1);
     let size = i64::try_from(size).ok()?;
     let count = if negative { -size } else { size };
-    i32::try_from(count).ok()
+    if (-limit..limit).contains(&count) {
+        Some(count as i32)
+    } else {
+        None
+    }
 }

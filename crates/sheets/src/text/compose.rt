@@ -22,7 +22,7 @@ impl Text {
     pub(crate) fn put_byte(&mut self, byte: u8)
         ensures bytes { text_of self.new ≡ put (text_of self.old) (byte ∷ []) }
     {
-        self.put_bytes(&[byte]);
+        let _ = self.bytes.try_push(byte);
     }
 
     /// Puts some bytes behind the text, if it has room for all of them.

@@ -1,5 +1,5 @@
 -- The run's answer settles the line. Assumes nothing.
-use Rattle.std.proofs.Common.{ℕ, List, Ok, Err, subst}
+use Rattle.std.proofs.Common.{ℕ, List, Ok, Err, refl, subst, arith}
 use Rattle.runs.specs.Calls.{Made}
 use Rattle.reports.specs.Sheets.{line_call}
 use Rattle.reports.proofs.Standing.{enters_ok, enters_err}
@@ -20,5 +20,5 @@ returns-in-Err g c =
     record {
       after = λ bag h.
           enters_err g.C.Condenser c.args.run.now.condenser c.enter.new.self.condenser _ c.args.lines.now.number bag h e m _
-          c.number.ensures.answer (λ i. e);
+          c.number.ensures.answer c.code.ensures.answer refl (omega arith);
     }

@@ -1,7 +1,6 @@
 -- The report goes behind the text. Assumes nothing.
 use Rattle.std.proofs.Common.{◌≡◌, ℕ, ◌-◌, List, length, Option, sym, ap, ◌∙◌, subst, append-nil, arith}
 use borrow.Rule.Slice.PartMut.{put_mid}
-use Rattle.numbers.specs.Refusals.{code_of}
 use Rattle.sheets.specs.Reports.{refused_report}
 use Rattle.reports.specs.declared.sheet.RefusedLine.{RefusedLine}
 use Rattle.reports.specs.InMemory.{refused_reports, Appends}
@@ -20,7 +19,7 @@ pub returns : goal.returns
 unfolding refused_reports
 returns c =
     let l = c.in-Some.line in
-    let text = refused_report l.line (code_of l.refusal.reason) l.refusal.place in
+    let text = refused_report l.line l.code l.place in
     let all : refused_reports (listed c.args.refused) ≡ text = ap (λ (o : Option RefusedLine). refused_reports (listed o)) c.in-Some.is ∙ append-nil text in
     record {
       after = subst (λ (t : List ℕ). Appends t c.args.out.now c.args.end (put_mid c.min-from.result (length c.args.out.now - c.min-from.result) c.args.out.now c.write.new.out) c.saturating_add.result) (sym all)
