@@ -19,6 +19,12 @@ use std::io::{BufWriter, Write};
 /// More answers than a queue has calls.
 const ROOM: usize = 16;
 
+const NO_ANSWER: Answer = Answer {
+    code: 0,
+    place: 0,
+    side: 0,
+};
+
 const DIRECTIONS: [Direction; 4] = [
     Direction::Nearest,
     Direction::TowardZero,
@@ -45,8 +51,8 @@ fn main(rt: HostRuntime) -> anyhow::Result<()> {
 
 /// Plays both queues in each direction, and shows the calls, their answers and the readings.
 fn compare<W: Write>(out: &mut W, first: &[Leg], second: &[Leg]) -> io::Result<()> {
-    let mut first_answers = [Ok(()); ROOM];
-    let mut second_answers = [Ok(()); ROOM];
+    let mut first_answers = [NO_ANSWER; ROOM];
+    let mut second_answers = [NO_ANSWER; ROOM];
     let _ = compare_queues(
         PairingTable::new(),
         first,

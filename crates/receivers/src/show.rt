@@ -62,10 +62,11 @@ pub struct AnswerText(pub Answer);
 
 impl fmt::Display for AnswerText {
     fn fmt<W: fmt::Write>(&self, f: &mut fmt::Formatter<W>) -> fmt::Result {
-        match self.0 {
-            Ok(()) => write!(f, "ok"),
-            Err(refusal) => write!(f, "no {refusal}"),
+        let Answer { code, place, side } = self.0;
+        if code == 0 {
+            return write!(f, "ok");
         }
+        write!(f, "no {code} {place} {side}")
     }
 }
 

@@ -3,26 +3,35 @@ use crate::duo::Duo;
 use condensers::column_table::ColumnTable;
 use numbers::counts::Counts;
 use numbers::patterns::Patterns;
-use numbers::refusal::{Reason, Refusal, Side};
 use readings::forms::Direction;
 use runs::agreement::compare_queues;
 use runs::queue::{Answer, Call, Elements, Leg};
 use runs::run::Open;
 
-/// The refusal of a run that has room for so many products.
+const ACCEPTED: Answer = Answer {
+    code: 0,
+    place: 0,
+    side: 0,
+};
+
+/// The refusal with code 4 of a run that has room for so many products.
 fn full(room: u64) -> Answer {
-    Err(Refusal::at(Reason::Full, room))
+    Answer {
+        code: 4,
+        place: room,
+        side: 0,
+    }
 }
 
 #[test]
 fn three_products_do_not_fit(rt: HostRuntime) {
     let mut run = Open::new(Duo::Empty);
     let three = run.take::<Counts, Counts>(&[1, 2, 3], &[1, 1, 1]);
-    assert_eq!(rt; three, full(2));
+    assert_eq!(rt; Answer::of(three), full(2));
     let two = run.withdraw::<Counts, Counts>(&[1, 2], &[1, 1]);
-    assert_eq!(rt; two, Ok(()));
+    assert_eq!(rt; Answer::of(two), ACCEPTED);
     let none = run.take::<Patterns, Counts>(&[], &[]);
-    assert_eq!(rt; none, Ok(()));
+    assert_eq!(rt; Answer::of(none), ACCEPTED);
     let sealed = run.seal();
     assert_eq!(rt; sealed.products(), 2);
     assert_eq!(rt; sealed.read_long(Direction::Nearest), 0xc008_0000_0000_0000);
@@ -45,21 +54,25 @@ const CALLS: [Call<'static>; 7] = [
 /// The answers to `CALLS`.
 fn answers_to_calls() -> [Answer; 7] {
     [
-        Ok(()),
-        Err(Refusal {
-            reason: Reason::LengthsDiffer,
+        ACCEPTED,
+        Answer {
+            code: 3,
             place: 2,
-            side: Side::Second,
-        }),
+            side: 2,
+        },
         full(1),
-        Ok(()),
+        ACCEPTED,
         full(0),
-        Err(Refusal::at(Reason::Shape, 6)),
-        Err(Refusal {
-            reason: Reason::CountRange,
+        Answer {
+            code: 5,
+            place: 6,
+            side: 0,
+        },
+        Answer {
+            code: 6,
             place: 4,
-            side: Side::First,
-        }),
+            side: 1,
+        },
     ]
 }
 
@@ -91,7 +104,7 @@ const LARGE: [Leg<'static>; 2] = [
 
 #[test]
 fn a_full_run_agrees_with_a_large_one(rt: HostRuntime) {
-    let mut answers = [Ok(()); 7];
+    let mut answers = [ACCEPTED; 7];
     let reports = compare_queues(
         Duo::Empty,
         &SMALL,

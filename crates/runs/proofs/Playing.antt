@@ -1,16 +1,17 @@
 -- Playing calls: a condenser goes on holding the bag of the calls that were made, and the buffer the answers. Assumes nothing.
-use Rattle.std.proofs.Common.{◌≡◌, ℕ, zero, suc, ◌+◌, ◌<◌, ◌≤◌, cond, ltb, ◌⊎◌, List, [], ◌∷◌, ◌++◌, map, length, get_or, drop, set, ℤ, pos, ◌+ℤ◌, Ok, Err, Result, sym, refl, ap, ◌∙◌, subst, inl, inr, add-one, arith, length-append, length-set, drop_of_length-le, drop-cons}
+use Rattle.std.proofs.Common.{◌≡◌, ℕ, zero, suc, ◌+◌, ◌<◌, ◌≤◌, cond, ltb, ◌⊎◌, List, [], ◌∷◌, ◌++◌, map, length, get_or, drop, set, ℤ, pos, ◌+ℤ◌, Result, sym, refl, ap, ◌∙◌, subst, inl, inr, add-one, arith, length-append, length-set, drop_of_length-le, drop-cons}
 use lib.IntN.{+ℤ_assoc, +ℤ_idl, +ℤ_comm}
 use Rattle.std.proofs.lemmas.Bool.{cases_lt, lt-ltb, le-ltb, cond-true, cond-false}
 use Rattle.condensers.specs.declared.condenser.Condenser.{Ghosts as Condenser}
 use Rattle.numbers.specs.declared.refusal.Refusal.{Refusal}
+use Rattle.runs.specs.declared.queue.Answer.{Answer}
 use Rattle.runs.specs.declared.queue.Leg.{Leg}
 use Rattle.runs.specs.Bags.{Entry, entry_units, entry_sum, exact_sum}
 use Rattle.runs.specs.Calls.{Outcome, accepted, refused, Says, ValueCall, call_outcome, offered, After, Made}
-use Rattle.runs.specs.Queues.{entered, bag_after, bag_from, bag_of, Answer, told, answer_of, answers_from, answers_of, written, value_call, calls_of, Holds, Resumes}
+use Rattle.runs.specs.Queues.{entered, bag_after, bag_from, bag_of, answer_of, answers_from, answers_of, written, value_call, calls_of, Holds, Resumes}
 use Rattle.runs.proofs.Bags.{sum_of_entries}
 
--- the buffer of answers, by their numbers
+-- the buffer of answers
 
 pub set_past : {A : Type 0} (l : List A) (i : ℕ) (a : A) → length l ≤ i → set l i a ≡ l
 set_past [] i a h = refl
@@ -39,13 +40,6 @@ note_next buffer k r a more h = go (cases_lt k (length buffer))
         let further : length (set buffer k a) ≤ k + 1 = omega arith in
         written_past (set buffer k a) (k + 1) more further ∙ sym (ap (λ (x : ℕ). written (set buffer k a) x more) is ∙ written_past (set buffer k a) k more past)
 
--- the numbers of a result are those of the outcome that it says
-told_says : (o : Outcome) (r : Result (Unit {0}) Refusal) → Says o r → told r ≡ answer_of o
-told_says accepted (Ok u) h = refl
-told_says accepted (Err e) h = absurd h
-told_says (refused code place side) (Ok u) h = absurd h
-told_says (refused code place side) (Err e) h = rw (h.0, h.1, h.2)
-
 -- bags
 
 pub sum-append : (a b : List Entry) → entry_sum (a ++ b) ≡ entry_sum a +ℤ entry_sum b
@@ -71,22 +65,23 @@ module _ {C : Type 0} (m : Condenser C) where
 
   -- one call more
   pub resumes_step : (whole : List ValueCall) (bag : List Entry) (buffer : List Answer) (place : ℕ) (call : ValueCall) (left : List ValueCall)
-      (before after : C) (noted : List Answer) (next next' : ℕ) (r : Result (Unit {0}) Refusal)
+      (before after : C) (noted : List Answer) (next next' : ℕ) (r : Result (Unit {0}) Refusal) (a : Answer)
       → Resumes m whole bag buffer place (call ∷ left) before noted next
       → Made m before after call r
+      → ((o : Outcome) → Says o r → a ≡ answer_of o)
       → next' ≡ cond (ltb next (length noted)) (next + 1) next
-      → Resumes m whole bag buffer place left after (set noted next (told r)) next'
+      → Resumes m whole bag buffer place left after (set noted next a) next'
   unfolding bag_from answers_from
-  resumes_step whole bag buffer place call left before after noted next next' r s made n =
+  resumes_step whole bag buffer place call left before after noted next next' r a s made says n =
       record {
         now_in = bag_after m.capacity s.now_in call;
         holds = made_holds before after call r s.now_in made s.holds;
         same_bag = s.same_bag;
-        same_answers = s.same_answers ∙ ap (λ (x : Answer). written noted next (x ∷ answers_from m.capacity (bag_after m.capacity s.now_in call) left)) (sym answer_is) ∙ note_next noted next next' (told r) _ n;
+        same_answers = s.same_answers ∙ ap (λ (x : Answer). written noted next (x ∷ answers_from m.capacity (bag_after m.capacity s.now_in call) left)) (sym answer_is) ∙ note_next noted next next' a _ n;
       }
     where
-      answer_is : told r ≡ answer_of (call_outcome m.capacity (length s.now_in) call)
-      answer_is = told_says _ r made.answer ∙ ap (λ (k : ℕ). answer_of (call_outcome m.capacity k call)) s.holds.count_is
+      answer_is : a ≡ answer_of (call_outcome m.capacity (length s.now_in) call)
+      answer_is = says _ made.answer ∙ ap (λ (k : ℕ). answer_of (call_outcome m.capacity k call)) s.holds.count_is
 
 -- the next of the calls that are left, and the end of them
 pub next_left : {A : Type 0} (f : A → ValueCall) (xs : List A) (i : ℕ) (d : A) (rest : List ValueCall) → i < length xs

@@ -1,4 +1,4 @@
--- The numbers of an answer settle it. Assumes nothing.
+-- The numbers of a call's result settle it. Assumes nothing.
 use Rattle.std.proofs.Common.{◌≡◌, ℕ, cond, eqb, Ok, Err, sym, refl, ap, ◌∙◌, arith}
 use Rattle.numbers.specs.declared.refusal.Reason.{Reason}
 use Rattle.numbers.specs.declared.refusal.Reason.TheVariants.{NotFinite, NotFactor, LengthsDiffer, Full, Shape, CountRange, OutputShort, ShortRange}
@@ -7,7 +7,8 @@ use Rattle.numbers.specs.declared.refusal.Side.TheVariants.{Neither, First, Seco
 use Rattle.numbers.specs.declared.refusal.Refusal.{Refusal}
 use Rattle.numbers.specs.Refusals.{code_of, side_of}
 use Rattle.numbers.proofs.Tested.{code-above}
-use Rattle.runs.specs.Queues.{Answer, ToldOnce}
+use Rattle.runs.specs.declared.queue.Answer.{Answer}
+use Rattle.runs.specs.Queues.{ToldOnce}
 
 -- the reason with that code, and the side with that number
 reason_of : ℕ → Reason

@@ -5,6 +5,7 @@ use Rattle.numbers.specs.Counts.{count_value}
 use Rattle.numbers.specs.Patterns.{pattern_value}
 use Rattle.numbers.specs.Refusals.{code_of, side_of}
 use Rattle.numbers.specs.declared.refusal.Refusal.{Refusal}
+use Rattle.runs.specs.declared.queue.Answer.{Answer}
 use Rattle.runs.specs.declared.queue.Call.{Call}
 use Rattle.runs.specs.declared.queue.Call.TheVariants.{Take, Withdraw, SheetLine}
 use Rattle.runs.specs.declared.queue.Elements.{Elements}
@@ -31,18 +32,12 @@ bag_from capacity bag (call ∷ calls) = bag_from capacity (bag_after capacity b
 abbrev pub bag_of : ℕ → List ValueCall → List Entry
 bag_of capacity calls = bag_from capacity [] calls
 
--- the numbers of an answer: code, place and side, all zero where the call was accepted
-pub record Answer : Type 0 where
-  pub code : ℕ
-  pub place : ℕ
-  pub side : ℕ
-
 -- the numbers that a call's result tells
 abbrev pub told : Result (Unit {0}) Refusal → Answer
 told (Ok _) = record { code = 0; place = 0; side = 0 }
 told (Err e) = record { code = code_of e.reason; place = e.place; side = side_of e.side }
 
--- answers with the same numbers are the same answer
+-- results with the same numbers are the same result
 abbrev pub ToldOnce : Type 0
 ToldOnce = (r s : Result (Unit {0}) Refusal) → told r ≡ told s → r ≡ s
 

@@ -1,9 +1,9 @@
 //! Two receivers: their queues played over condensers of any make, and their long readings.
-ghost use Rattle.std.specs.Prelude.{◌≡◌, map, length};
+ghost use Rattle.std.specs.Prelude.{◌≡◌, length};
 ghost use Rattle.std.specs.Float.{binary64};
 ghost use Rattle.readings.specs.Rounding.{Rounds};
 ghost use Rattle.runs.specs.Agreement.{Agree, AgreementByValues};
-ghost use Rattle.runs.specs.Queues.{bag_of, calls_of, told, answers_of, written};
+ghost use Rattle.runs.specs.Queues.{bag_of, calls_of, answers_of, written};
 
 use crate::play::play;
 use crate::queue::{Answer, Leg};
@@ -53,7 +53,7 @@ pub fn compare_queues<C: Condenser + Drop, D: Condenser + Drop>(
 ) -> Reports
     ensures law { Agree direction (bag_of C.Condenser.capacity (calls_of first_queue.now)) (bag_of D.Condenser.capacity (calls_of second_queue.now)) result.first.reading result.second.reading }
     ensures count { (result.first.products ≡ length (bag_of C.Condenser.capacity (calls_of first_queue.now))) × (result.second.products ≡ length (bag_of D.Condenser.capacity (calls_of second_queue.now))) }
-    ensures answer { (map told first_answers.new ≡ written (map told first_answers.old) 0 (answers_of C.Condenser.capacity (calls_of first_queue.now))) × (map told second_answers.new ≡ written (map told second_answers.old) 0 (answers_of D.Condenser.capacity (calls_of second_queue.now))) }
+    ensures answer { (first_answers.new ≡ written first_answers.old 0 (answers_of C.Condenser.capacity (calls_of first_queue.now))) × (second_answers.new ≡ written second_answers.old 0 (answers_of D.Condenser.capacity (calls_of second_queue.now))) }
 {
     read_both(
         first,
@@ -79,7 +79,7 @@ fn read_both<C: Condenser + Drop, D: Condenser + Drop>(
 ) -> Reports
     ensures law { Agree direction (bag_of C.Condenser.capacity (calls_of first_queue.now)) (bag_of D.Condenser.capacity (calls_of second_queue.now)) result.first.reading result.second.reading }
     ensures count { (result.first.products ≡ length (bag_of C.Condenser.capacity (calls_of first_queue.now))) × (result.second.products ≡ length (bag_of D.Condenser.capacity (calls_of second_queue.now))) }
-    ensures answer { (map told first_answers.new ≡ written (map told first_answers.old) 0 (answers_of C.Condenser.capacity (calls_of first_queue.now))) × (map told second_answers.new ≡ written (map told second_answers.old) 0 (answers_of D.Condenser.capacity (calls_of second_queue.now))) }
+    ensures answer { (first_answers.new ≡ written first_answers.old 0 (answers_of C.Condenser.capacity (calls_of first_queue.now))) × (second_answers.new ≡ written second_answers.old 0 (answers_of D.Condenser.capacity (calls_of second_queue.now))) }
 {
     let one = play(first, first_queue, first_answers);
     let other = play(second, second_queue, second_answers);

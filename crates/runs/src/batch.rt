@@ -37,7 +37,7 @@ impl<C: Condenser + Drop> Open<C> {
     }
 
     /// Tests everything, and then puts every product.
-    pub(crate) fn enter_products<K: Kind, L: Kind>(
+    fn enter_products<K: Kind, L: Kind>(
         &mut self,
         entering: Entering,
         firsts: &[K::Element],

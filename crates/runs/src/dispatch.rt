@@ -54,12 +54,25 @@ impl<C: Condenser + Drop> Open<C> {
         ensures call { Made C.Condenser self.old.condenser self.new.condenser (slices (is_withdrawn entering) (map K.Kind.value firsts.now) (values_of seconds.now)) result }
     {
         match seconds {
-            Elements::Patterns(seconds) => self.enter_products::<K, Patterns>(
+            Elements::Patterns(seconds) => self.enter_slices::<K, Patterns>(
                 entering, firsts, seconds,
             ),
-            Elements::Counts(seconds) => self.enter_products::<K, Counts>(
-                entering, firsts, seconds,
-            ),
+            Elements::Counts(seconds) => self.enter_slices::<K, Counts>(entering, firsts, seconds),
+        }
+    }
+
+    /// The call on two slices of two kinds, as any program makes it.
+    fn enter_slices<K: Kind, L: Kind>(
+        &mut self,
+        entering: Entering,
+        firsts: &[K::Element],
+        seconds: &[L::Element],
+    ) -> Result<(), Refusal>
+        ensures call { Made C.Condenser self.old.condenser self.new.condenser (slices (is_withdrawn entering) (map K.Kind.value firsts.now) (map L.Kind.value seconds.now)) result }
+    {
+        match entering {
+            Entering::Taken => self.take::<K, L>(firsts, seconds),
+            Entering::Withdrawn => self.withdraw::<K, L>(firsts, seconds),
         }
     }
 }

@@ -34,6 +34,7 @@ pub(crate) fn product_of(
 }
 
 /// The product of the elements at an index of two slices.
+// not by `product_of`, which makes both factors before it looks at either: this is what each product of a slice costs
 pub(crate) fn piece_at<K: Kind, L: Kind>(
     first: K::Element,
     second: L::Element,
@@ -41,8 +42,7 @@ pub(crate) fn piece_at<K: Kind, L: Kind>(
 ) -> Result<Piece, Refusal>
     ensures answer { PieceOf (K.Kind.value first) index (L.Kind.value second) index result }
 {
-    product_of(
-        factor_at::<K>(first, index, Side::First),
-        factor_at::<L>(second, index, Side::Second),
-    )
+    let first = factor_at::<K>(first, index, Side::First)?;
+    let second = factor_at::<L>(second, index, Side::Second)?;
+    Ok(first.times(second))
 }

@@ -1,5 +1,4 @@
 //! Queues of calls as data: what a run is asked to do, from its opening to its last reading.
-use numbers::refusal::Refusal;
 use readings::forms::Form;
 
 /// The elements of a slice, of one kind or another.
@@ -17,8 +16,13 @@ pub enum Call<'a> {
     SheetLine(&'a [u8]),
 }
 
-/// What a call answers.
-pub type Answer = Result<(), Refusal>;
+/// The numbers of an answer: code, place and side, all zero where the call was accepted.
+#[derive(Clone, Copy, PartialEq, Eq, Debug)]
+pub struct Answer {
+    pub code: u64,
+    pub place: u64,
+    pub side: u64,
+}
 
 /// A part of a queue: calls on an open run, which is then sealed and read in each of the forms.
 #[derive(Clone, Copy)]
