@@ -37,7 +37,7 @@ fn no_columns() -> [i64; COLUMNS]
 }
 
 /// A part with the sign of its piece.
-// a value is chosen, and no branch taken, since signs come in no order that a processor could foresee
+// chosen as a value: a branch is mispredicted where signs come at random
 fn signed_part(negative: bool, part: u32) -> i64
     ensures value { result ≡ signed negative part }
 {

@@ -1,7 +1,7 @@
 //! A refusal: why a call said no, at which place, and on which side.
 ghost use Rattle.std.specs.Prelude.{◌≡◌, Some};
 ghost use Rattle.numbers.specs.declared.refusal.Side.TheVariants.{Neither};
-ghost use Rattle.numbers.specs.Refusals.{code_of, side_of, refusal_text};
+ghost use Rattle.numbers.specs.Refusals.{code_of, side_of, Refused, refusal_text};
 
 use std::error::Error;
 use std::fmt;
@@ -65,6 +65,7 @@ impl Refusal {
     /// A refusal at a place that lies on neither side.
     pub fn at(reason: Reason, place: u64) -> Refusal
         ensures answer { result ≡ record { reason = reason; place = place; side = Neither } }
+        ensures value { Refused result (code_of reason) place 0 }
     {
         Refusal {
             reason,
